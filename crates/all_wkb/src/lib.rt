@@ -4,7 +4,9 @@
 
 ghost use Rattle.std.specs.Prelude.{◌≡◌, ◌+◌, ◌-◌, ◌/◌, ◌≤◌, ◌<◌, length};
 ghost use Rattle.base.specs.common.Count.{sum_to};
+ghost use Rattle.std.specs.Result.{result_unwrap_or};
 ghost use Rattle.base.specs.common.Decide.{Says};
+ghost use Rattle.base.specs.refusal.Number.{answer_number};
 ghost use Rattle.arguments.specs.entries.Named.{EntriesNamed};
 ghost use Rattle.cell_memory.specs.layout.Cleared.{cleared_from};
 ghost use Rattle.queries.specs.all_neighbours.Lists.{lists_to};
@@ -15,6 +17,7 @@ ghost use Rattle.all_wkb.specs.Promise.{image_at, CellsNumber, AllNumber, AllWkb
 ghost use Rattle.all_wkb.specs.Steps.{FewEntries, size_at, ImagesNamed, ImagesFit};
 
 use arguments::asking::{cell_count, cells_ok};
+use base::refusal::Refusal;
 
 // How many bytes the polygon of so many entries has.
 fn polygon_size(entries: usize) -> usize
@@ -54,41 +57,44 @@ fn fits(offsets: &[u32], indexes: &[u32], room: usize) -> bool
 }
 
 // Rules 1, 16 and 18.
-fn ask_cells(vertices: &[f64], offsets: &[u32], indexes: &[u32]) -> u32
-    ensures { CellsNumber vertices.now offsets.now indexes.now result }
+fn ask_cells(vertices: &[f64], offsets: &[u32], indexes: &[u32]) -> Result<(), Refusal>
+    ensures { CellsNumber vertices.now offsets.now indexes.now (answer_number result) }
 {
     if vertices.len() % 2 != 0 {
-        return base::numbers::REFUSED_COUNT;
+        return Err(Refusal::Count);
     }
     if indexes.len() > 16777216 {
-        return base::numbers::REFUSED_COUNT;
+        return Err(Refusal::Count);
     }
     let count = cell_count(offsets.len());
     if !cells_ok(offsets, indexes, count) {
-        return base::numbers::REFUSED_OFFSETS;
+        return Err(Refusal::Offsets);
     }
     let end = base::numbers::wide(offsets[count]);
     if !arguments::entries::named(&indexes[..end], vertices.len() / 2) {
-        return base::numbers::REFUSED_ENTRY;
+        return Err(Refusal::Entry);
     }
-    0
+    Ok(())
 }
 
 // The same, then rule 2 on the starts and on the output.
-fn ask(vertices: &[f64], offsets: &[u32], indexes: &[u32], starts: usize, out: usize) -> u32
-    ensures { AllNumber vertices.now offsets.now indexes.now starts out result }
+fn ask(
+    vertices: &[f64],
+    offsets: &[u32],
+    indexes: &[u32],
+    starts: usize,
+    out: usize,
+) -> Result<(), Refusal>
+    ensures { AllNumber vertices.now offsets.now indexes.now starts out (answer_number result) }
 {
-    let asked = ask_cells(vertices, offsets, indexes);
-    if asked != 0 {
-        return asked;
-    }
+    ask_cells(vertices, offsets, indexes)?;
     if starts < offsets.len() {
-        return base::numbers::REFUSED_ROOM;
+        return Err(Refusal::Room);
     }
     if !fits(offsets, indexes, out) {
-        return base::numbers::REFUSED_ROOM;
+        return Err(Refusal::Room);
     }
-    0
+    Ok(())
 }
 
 // Writes the polygon of cell s at place n of `out`. Answers where it ends.
@@ -146,24 +152,19 @@ fn fill_from(starts: &mut [u64], from: usize, value: u64)
     }
 }
 
-// Where it is refused `starts` and `out` stay as they were; after 0 `starts` is 2^64 - 1 past the last, and `out` as it was past the polygons.
+// Answers how many bytes were written. Where it is refused `starts` and `out` stay as they were; else `starts` is 2^64 - 1 past the last, and `out` as it was past the polygons.
 pub fn all_wkb(
     vertices: &[f64],
     offsets: &[u32],
     indexes: &[u32],
     starts: &mut [u64],
     out: &mut [u8],
-    written: &mut usize,
-) -> u32
+) -> Result<usize, Refusal>
     ensures { AllWkbAnswer vertices.now offsets.now indexes.now starts.old starts.new
-        out.old out.new written.new result }
+        out.old out.new (result_unwrap_or result 0) (answer_number result) }
 {
-    *written = 0;
-    let r = ask(vertices, offsets, indexes, starts.len(), out.len());
-    if r != 0 {
-        return r;
-    }
-    *written = write_images(vertices, offsets, indexes, starts, out);
+    ask(vertices, offsets, indexes, starts.len(), out.len())?;
+    let written = write_images(vertices, offsets, indexes, starts, out);
     fill_from(starts, offsets.len(), 18446744073709551615);
-    0
+    Ok(written)
 }

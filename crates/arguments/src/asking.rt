@@ -1,41 +1,38 @@
-// What a call asks of its own arguments, each rule with its number: 4 on a site, 5 on a destination, 3 on a box; and 16 on lent cells.
+// What a call asks of its own arguments, each rule with its refusal: a site, a destination, a box; and whether lent cells keep theirs.
 ghost use Rattle.std.specs.Prelude.{◌≡◌, ◌-◌};
 ghost use Rattle.base.specs.common.Decide.{Says};
+ghost use Rattle.base.specs.refusal.Number.{answer_number};
 ghost use Rattle.arguments.specs.asking.Asks.{site_rules, path_rules, Asked, box_rules, CellsOf};
 
+use base::refusal::Refusal;
 use plane::points::Point;
 
 // Rule 4.
-pub fn ask_site(sites: usize, site: u32) -> u32
-    ensures { Asked (site_rules sites site) result }
+pub fn ask_site(sites: usize, site: u32) -> Result<(), Refusal>
+    ensures { Asked (site_rules sites site) (answer_number result) }
 {
     if base::numbers::wide(site) < sites {
-        return 0;
+        return Ok(());
     }
-    base::numbers::REFUSED_SITE
+    Err(Refusal::Site)
 }
 
 // Rules 4 and 5.
-pub fn ask_path(sites: usize, site: u32, p: Point) -> u32
-    ensures { Asked (path_rules sites site p) result }
+pub fn ask_path(sites: usize, site: u32, p: Point) -> Result<(), Refusal>
+    ensures { Asked (path_rules sites site p) (answer_number result) }
 {
-    if sites <= base::numbers::wide(site) {
-        return base::numbers::REFUSED_SITE;
-    }
+    ask_site(sites, site)?;
     if plane::points::site_ok(p) {
-        return 0;
+        return Ok(());
     }
-    base::numbers::REFUSED_DESTINATION
+    Err(Refusal::Destination)
 }
 
 // Rule 3, by whether the given box keeps it.
-pub fn ask_box(sound: bool) -> u32
-    ensures { Asked (box_rules sound) result }
+pub fn ask_box(sound: bool) -> Result<(), Refusal>
+    ensures { Asked (box_rules sound) (answer_number result) }
 {
-    if sound {
-        return 0;
-    }
-    base::numbers::REFUSED_BOX
+    if sound { Ok(()) } else { Err(Refusal::Box) }
 }
 
 // Rule 16.

@@ -4,7 +4,7 @@ ghost use Rattle.octets.specs.Wrote.{Wrote, HasRoom};
 ghost use Rattle.audit.specs.text.Share.{billionths, fraction, pointed, share_text};
 ghost use Rattle.audit.specs.text.AuditLines.{labelled_line, pair_line, triple_line, missing_line, verdict_line, turned_line, audit_lines};
 
-use auditing::AuditVerdict;
+use auditing::AuditFault;
 use octets::put;
 use printing::parts::{decimal, labelled};
 
@@ -114,20 +114,20 @@ fn triple_line(
     pair_line(out, a, second, m, third, n, b"\n")
 }
 
-fn verdict_line(out: &mut [u8], at: usize, verdict: AuditVerdict, missing: f64) -> usize
+fn verdict_line(out: &mut [u8], at: usize, verdict: Result<(), AuditFault>, missing: f64) -> usize
     requires { HasRoom out.old at (verdict_line verdict missing) }
     ensures { Wrote out.old out.new at result (verdict_line verdict missing) }
 {
     match verdict {
-        AuditVerdict::Sound => put(out, at, b"sound\n"),
-        AuditVerdict::Ring(s) => number_line(
+        Ok(()) => put(out, at, b"sound\n"),
+        Err(AuditFault::Ring(s)) => number_line(
             out,
             at,
             b"site",
             s,
             b": its piece does not run once round, the right way\n",
         ),
-        AuditVerdict::Outside(s, e) => {
+        Err(AuditFault::Outside(s, e)) => {
             pair_line(
                 out,
                 at,
@@ -138,7 +138,7 @@ fn verdict_line(out: &mut [u8], at: usize, verdict: AuditVerdict, missing: f64) 
                 b" is outside the box\n",
             )
         }
-        AuditVerdict::Nearer(s, e, o) => {
+        Err(AuditFault::Nearer(s, e, o)) => {
             triple_line(
                 out,
                 at,
@@ -150,8 +150,8 @@ fn verdict_line(out: &mut [u8], at: usize, verdict: AuditVerdict, missing: f64) 
                 o,
             )
         }
-        AuditVerdict::Uncovered => missing_line(out, at, missing),
-        AuditVerdict::Twin(s, o) => {
+        Err(AuditFault::Uncovered) => missing_line(out, at, missing),
+        Err(AuditFault::Twin(s, o)) => {
             pair_line(out, at, b"sites", o, b" and", s, b" stand at one place\n")
         }
     }
@@ -183,7 +183,7 @@ pub fn audit_lines(
     count: u32,
     total: u32,
     lowest: u32,
-    verdict: AuditVerdict,
+    verdict: Result<(), AuditFault>,
     missing: f64,
 ) -> usize
     requires { HasRoom out.old 0 (audit_lines count total lowest verdict missing) }

@@ -1,5 +1,7 @@
 // Why a call refuses, a variant for each rule, and the number that a caller is told: docs/use/RULES.md says when each is given.
-ghost use Rattle.std.specs.Prelude.{◌≡◌};
+ghost use Rattle.std.specs.Prelude.{◌≡◌, ◌≤◌};
+ghost use Rattle.base.specs.common.Decide.{Says};
+ghost use Rattle.base.specs.numbers.Numbers.{refused_triangle, refused_fan};
 ghost use Rattle.base.specs.refusal.Number.{number_of, answer_number};
 
 #[derive(Clone, Copy, Debug, PartialEq, Eq)]
@@ -28,6 +30,18 @@ pub enum Refusal {
     Flip,
     Corner,
     Border,
+}
+
+impl Refusal {
+    // Whether it is the mesh's topology that is refused, by rules 7 to 10.
+    pub fn of_mesh(self) -> bool
+        ensures { Says result ((refused_triangle ≤ number_of self) × (number_of self ≤ refused_fan)) }
+    {
+        matches!(
+            self,
+            Refusal::Triangle | Refusal::Pairing | Refusal::Hull | Refusal::Fan
+        )
+    }
 }
 
 impl From<Refusal> for u32 {

@@ -3,99 +3,67 @@
 
 #![tactic(auto)]
 
-ghost use Rattle.std.specs.Prelude.{◌≡◌, false};
-ghost use Rattle.cell_query.specs.Cells.{CellNumber, CellAnswer, PlaceAnswer};
-ghost use Rattle.cell_query.specs.SharedEdge.{told_of, SharesAnswer};
+ghost use Rattle.base.specs.refusal.Number.{answer_number};
+ghost use Rattle.cell_query.specs.Cells.{CellNumber, CellAnswer, part_of, PlaceAnswer, start_of, length_of};
+ghost use Rattle.cell_query.specs.SharedEdge.{told, SharesAnswer};
 
 use arguments::asking::{ask_site, cell_count, cells_ok};
+use base::refusal::Refusal;
 
-// The number; 0 where the site has a cell.
-fn ask_cell(offsets: &[u32], indexes: &[u32], site: u32) -> u32
-    ensures { CellNumber offsets.now indexes.now site result }
+// Whether the site has a cell.
+fn ask_cell(offsets: &[u32], indexes: &[u32], site: u32) -> Result<(), Refusal>
+    ensures { CellNumber offsets.now indexes.now site (answer_number result) }
 {
     let count = cell_count(offsets.len());
-    let asked = ask_site(count, site);
-    if asked != 0 {
-        return asked;
-    }
+    ask_site(count, site)?;
     if !cells_ok(offsets, indexes, count) {
-        return base::numbers::REFUSED_OFFSETS;
+        return Err(Refusal::Offsets);
     }
-    0
+    Ok(())
 }
 
-// The cell itself; refused, the empty part.
-pub fn cell<'a>(offsets: &[u32], indexes: &'a [u32], site: u32, number: &mut u32) -> &'a [u32]
-    ensures { CellAnswer offsets.now indexes.now site result.now number.new }
+// The cell itself.
+pub fn cell<'a>(offsets: &[u32], indexes: &'a [u32], site: u32) -> Result<&'a [u32], Refusal>
+    ensures { CellAnswer offsets.now indexes.now site (part_of result) (answer_number result) }
 {
-    let r = ask_cell(offsets, indexes, site);
-    *number = r;
-    if r != 0 {
-        return &indexes[..0];
-    }
-    walks::shared::cell(offsets, indexes, base::numbers::wide(site))
+    ask_cell(offsets, indexes, site)?;
+    Ok(walks::shared::cell(offsets, indexes, base::numbers::wide(site)))
 }
 
-// Where the cell stands: a number, where it starts and how long it is, 0 and 0 where it is refused.
+// Where a cell stands: where it starts, and how long it is.
 #[derive(Clone, Copy)]
 pub struct CellPlace {
-    pub number: u32,
     pub start: u32,
     pub length: u32,
 }
 
-pub fn place(offsets: &[u32], indexes: &[u32], site: u32) -> CellPlace
-    ensures { PlaceAnswer offsets.now indexes.now site result.start result.length result.number }
+pub fn place(offsets: &[u32], indexes: &[u32], site: u32) -> Result<CellPlace, Refusal>
+    ensures { PlaceAnswer offsets.now indexes.now site (start_of result) (length_of result) (answer_number result) }
 {
-    let r = ask_cell(offsets, indexes, site);
-    if r != 0 {
-        return CellPlace {
-            number: r,
-            start: 0,
-            length: 0,
-        };
-    }
+    ask_cell(offsets, indexes, site)?;
     let s = base::numbers::wide(site);
-    let from = offsets[s];
-    let to = offsets[s + 1];
-    CellPlace {
-        number: 0,
-        start: from,
-        length: to - from,
-    }
-}
-
-// A number, and an answer.
-#[derive(Clone, Copy)]
-pub struct Told {
-    pub number: u32,
-    pub yes: bool,
-}
-
-fn denied(number: u32) -> Told
-    ensures { result ≡ told_of number false }
-{
-    Told { number, yes: false }
+    let start = offsets[s];
+    let end = offsets[s + 1];
+    Ok(CellPlace {
+        start,
+        length: end - start,
+    })
 }
 
 // Whether the cells of sites a and b share an edge.
-pub fn cells_share_edge(offsets: &[u32], indexes: &[u32], a: u32, b: u32) -> Told
-    ensures { SharesAnswer offsets.now indexes.now a b result }
+pub fn cells_share_edge(offsets: &[u32], indexes: &[u32], a: u32, b: u32) -> Result<bool, Refusal>
+    ensures { SharesAnswer offsets.now indexes.now a b (told result) }
 {
     let count = cell_count(offsets.len());
-    let s = base::numbers::wide(a);
-    let t = base::numbers::wide(b);
-    if count <= s {
-        return denied(base::numbers::REFUSED_SITE);
-    }
-    if count <= t {
-        return denied(base::numbers::REFUSED_SITE);
-    }
+    ask_site(count, a)?;
+    ask_site(count, b)?;
     if !cells_ok(offsets, indexes, count) {
-        return denied(base::numbers::REFUSED_OFFSETS);
+        return Err(Refusal::Offsets);
     }
-    Told {
-        number: 0,
-        yes: walks::shared::share_edge(offsets, indexes, s, t),
-    }
+    Ok(walks::shared::share_edge(
+        offsets,
+        indexes,
+        base::numbers::wide(a),
+        base::numbers::wide(b),
+    ))
 }

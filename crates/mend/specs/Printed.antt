@@ -1,6 +1,6 @@
 -- What `mend` prints, said of its arguments and of the bytes of its input: the changes from the mesh whose form they are to the mended one, the box that
 -- was put in before all others, or the mended mesh's form, or the line of a refusal. Definitions only.
-use Rattle.std.specs.Prelude.{◌≡◌, Bool, true, false, ◌&&◌, List, [], ◌∷◌, ◌++◌, ◌≢◌, ℕ, ◌/◌, eqb, ltb, Float, length}
+use Rattle.std.specs.Prelude.{◌≡◌, Bool, true, false, ◌&&◌, List, [], ◌∷◌, ◌++◌, ◌≢◌, ℕ, ◌/◌, eqb, ltb, Float, length, Err}
 use Rattle.base.specs.common.Refusals.{Rule, once, each as every, reads, Finds}
 use Rattle.base.specs.common.Pick.{pick}
 use Rattle.base.specs.numbers.Numbers.{refused_count, refused_box}
@@ -65,7 +65,7 @@ abbrev pub put_rules : Outline → List Float → List ℕ → List ℕ → List
 put_rules put sites tri he hull =
     once refused_count (Counted (length sites) (length tri) (length he) (length hull))
     ∷ once refused_box (keeps_box put ≡ true)
-    ∷ reads number_of (coordinate_rules sites ++ every Triangle (length tri / 3) (SoundAt tri (site_count sites)) ∷ []) ++ work_rules tri (site_count sites)
+    ∷ reads number_of (coordinate_rules sites ++ every (λ t. Err (Triangle t)) (length tri / 3) (SoundAt tri (site_count sites)) ∷ []) ++ work_rules tri (site_count sites)
 
 -- that of the first rule that is broken
 abbrev pub MendNumber : Outline → List Float → List ℕ → List ℕ → List ℕ → ℕ → Type 0

@@ -1,5 +1,5 @@
 -- Mending: the rules in the order in which they are tried, what is worked out, and what a call leaves in the lent slices and answers in numbers.
-use Rattle.std.specs.Prelude.{◌≡◌, List, [], ◌∷◌, ◌++◌, ℕ, ◌+◌, ◌/◌, ◌≤◌, eqb, Float, length, get_or}
+use Rattle.std.specs.Prelude.{◌≡◌, List, [], ◌∷◌, ◌++◌, ℕ, ◌+◌, ◌/◌, ◌≤◌, eqb, Float, length, get_or, Err}
 use Rattle.base.specs.common.Pick.{pick}
 use Rattle.base.specs.common.Refusals.{Rule, once, each, reads, Finds}
 use Rattle.base.specs.numbers.Numbers.{EMPTY, refused_twice}
@@ -27,7 +27,7 @@ mend_room_of sites tri old = MendRoom (site_count sites) (length tri) (length ol
 -- 1, 2, 6, 7
 abbrev pub mend_early : List Float → List ℕ → ℕ → ℕ → Type 0 → List (Rule ℕ)
 mend_early sites tri halfedges hull room =
-    reads number_of (start_rules (length sites) (length tri) halfedges hull room ++ coordinate_rules sites ++ each Triangle (length tri / 3) (SoundAt tri (site_count sites)) ∷ [])
+    reads number_of (start_rules (length sites) (length tri) halfedges hull room ++ coordinate_rules sites ++ each (λ t. Err (Triangle t)) (length tri / 3) (SoundAt tri (site_count sites)) ∷ [])
 
 -- 19, then 9 and 10 of the new pairs
 abbrev pub work_rules : List ℕ → ℕ → List (Rule ℕ)

@@ -4,15 +4,16 @@
 
 ghost use Rattle.std.specs.Prelude.{◌≡◌, ◌%◌, ◌<◌, ◌≤◌, length, replicate};
 ghost use Rattle.base.specs.numbers.Numbers.{EMPTY};
+ghost use Rattle.mesh.specs.Faults.{refusal_of};
 ghost use Rattle.mesh.specs.Hull.{next_place};
 ghost use Rattle.mesh.specs.Mesh.{next_of, end_of, turn_of, whole_of, Walks};
 
 use base::numbers::{EMPTY, wide};
+use base::refusal::Refusal;
 
 // What a check finds wrong with a mesh, and the lowest site, triangle, half-edge or hull place that has the fault.
-#[derive(Clone, Copy)]
+#[derive(Clone, Copy, Debug, PartialEq, Eq)]
 pub enum MeshFault {
-    None,
     Counts,
     Room,
     Coordinate(usize),
@@ -21,6 +22,24 @@ pub enum MeshFault {
     HullPlace(usize),
     HullEdge(usize),
     BrokenFan(usize),
+}
+
+// Without its place a fault is the refusal by its rule.
+impl From<MeshFault> for Refusal {
+    ghost from_gives = { λ f r. r ≡ refusal_of f };
+
+    fn from(f: MeshFault) -> Refusal {
+        match f {
+            MeshFault::Counts => Refusal::Count,
+            MeshFault::Room => Refusal::Room,
+            MeshFault::Coordinate(_) => Refusal::Coordinate,
+            MeshFault::Triangle(_) => Refusal::Triangle,
+            MeshFault::Pairing(_) => Refusal::Pairing,
+            MeshFault::HullPlace(_) => Refusal::Hull,
+            MeshFault::HullEdge(_) => Refusal::Hull,
+            MeshFault::BrokenFan(_) => Refusal::Fan,
+        }
+    }
 }
 
 // The next half-edge of the same triangle.

@@ -151,16 +151,16 @@ fn first_kept(hull: &[u32], work: &[u32], n: usize) -> usize
     i
 }
 
-fn hull_fault(kept: usize, places: usize, stray: usize, edges: usize) -> MeshFault
+fn hull_fault(kept: usize, places: usize, stray: usize, edges: usize) -> Result<(), MeshFault>
     ensures { result ≡ hull_fault_of kept places stray edges }
 {
     if kept < places {
-        return MeshFault::HullPlace(kept);
+        return Err(MeshFault::HullPlace(kept));
     }
     if stray < edges {
-        return MeshFault::HullEdge(stray);
+        return Err(MeshFault::HullEdge(stray));
     }
-    MeshFault::None
+    Ok(())
 }
 
 // Rule 9. The work slice holds the marks that are left.
@@ -170,7 +170,7 @@ pub fn check_hull(
     hull: &[u32],
     sites: usize,
     work: &mut [u32],
-) -> MeshFault
+) -> Result<(), MeshFault>
     requires { (length triangles.now % 3 ≡ 0) × (length halfedges.now ≡ length triangles.now) × (sites ≤ length work.old)
         × (length hull.now < EMPTY) × ((k : ℕ) → k < length triangles.now → get_or triangles.now k 0 < length work.old) }
     ensures { HullAnswer triangles.now halfedges.now hull.now sites result

@@ -1,26 +1,17 @@
-// Rule 1, on the counts of a lent mesh, and the number that a fault of the check is answered by.
+// Rule 1, on the counts of a lent mesh, and the number that is told of what a check answers.
 ghost use Rattle.std.specs.Prelude.{◌≡◌};
 ghost use Rattle.base.specs.common.Decide.{Says};
 ghost use Rattle.mesh.specs.Faults.{number_of};
 ghost use Rattle.mesh.specs.Accepted.{Counted};
 
+use base::refusal::Refusal;
 use mesh::MeshFault;
 
-// The number of a fault (docs/use/RULES.md).
-pub fn number(f: MeshFault) -> u32
-    ensures { result ≡ number_of f }
+// The number of an answer of the check (docs/use/RULES.md).
+pub fn number(answer: Result<(), MeshFault>) -> u32
+    ensures { result ≡ number_of answer }
 {
-    match f {
-        MeshFault::None => 0,
-        MeshFault::Counts => base::numbers::REFUSED_COUNT,
-        MeshFault::Room => base::numbers::REFUSED_ROOM,
-        MeshFault::Coordinate(_) => base::numbers::REFUSED_COORDINATE,
-        MeshFault::Triangle(_) => base::numbers::REFUSED_TRIANGLE,
-        MeshFault::Pairing(_) => base::numbers::REFUSED_PAIRING,
-        MeshFault::HullPlace(_) => base::numbers::REFUSED_HULL,
-        MeshFault::HullEdge(_) => base::numbers::REFUSED_HULL,
-        MeshFault::BrokenFan(_) => base::numbers::REFUSED_FAN,
-    }
+    base::refusal::number(answer.map_err(Refusal::from))
 }
 
 // Rule 1, on the lengths of the lists of coordinates, triangle entries, half-edges and hull sites.

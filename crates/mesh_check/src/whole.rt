@@ -5,23 +5,23 @@ ghost use Rattle.mesh.specs.Mesh.{AllSound, AllPaired};
 ghost use Rattle.mesh.specs.Accepted.{mesh};
 ghost use Rattle.mesh_check.specs.whole.Answers.{ShapeAnswer, BorderAnswer, TopologyAnswer, OutlineAnswer, MeshAnswer};
 
-use crate::counts::{counts_ok, number};
+use crate::counts::counts_ok;
 use mesh::MeshFault;
 
 // Rules 7 and 8.
-fn check_shape(triangles: &[u32], halfedges: &[u32], sites: usize) -> MeshFault
+fn check_shape(triangles: &[u32], halfedges: &[u32], sites: usize) -> Result<(), MeshFault>
     requires { (length triangles.now % 3 ≡ 0) × (length halfedges.now ≡ length triangles.now) }
     ensures { ShapeAnswer triangles.now halfedges.now sites result }
 {
     let t = crate::pairing::check_triangles(triangles, sites);
     if t < triangles.len() / 3 {
-        return MeshFault::Triangle(t);
+        return Err(MeshFault::Triangle(t));
     }
     let e = crate::pairing::check_pairs(triangles, halfedges);
     if e < triangles.len() {
-        return MeshFault::Pairing(e);
+        return Err(MeshFault::Pairing(e));
     }
-    MeshFault::None
+    Ok(())
 }
 
 // Rules 9 and 10, where 7 and 8 hold. If they hold too, the work slice has the leftmost table, then `EMPTY`.
@@ -31,20 +31,17 @@ pub fn check_border(
     hull: &[u32],
     sites: usize,
     work: &mut [u32],
-) -> MeshFault
+) -> Result<(), MeshFault>
     requires { (length triangles.now % 3 ≡ 0) × (length halfedges.now ≡ length triangles.now) × (length triangles.now < EMPTY)
         × (length hull.now < EMPTY) × (sites ≤ length work.old) × AllSound triangles.now sites × AllPaired triangles.now halfedges.now }
     ensures { BorderAnswer triangles.now halfedges.now hull.now sites work.old work.new result }
 {
-    let f = crate::border::check_hull(triangles, halfedges, hull, sites, work);
-    if number(f) != 0 {
-        return f;
-    }
+    crate::border::check_hull(triangles, halfedges, hull, sites, work)?;
     let s = crate::fan::check_fan(triangles, halfedges, sites, work);
     if s < sites {
-        return MeshFault::BrokenFan(s);
+        return Err(MeshFault::BrokenFan(s));
     }
-    MeshFault::None
+    Ok(())
 }
 
 // Rules 7 to 10. The work slice then holds the leftmost table and then `EMPTY`, and `EMPTY` throughout after a refusal.
@@ -54,22 +51,20 @@ pub fn check_topology(
     hull: &[u32],
     sites: usize,
     work: &mut [u32],
-) -> MeshFault
+) -> Result<(), MeshFault>
     requires { (length triangles.now % 3 ≡ 0) × (length halfedges.now ≡ length triangles.now) × (length triangles.now < EMPTY)
         × (length hull.now < EMPTY) × (sites ≤ length work.old) }
     ensures { TopologyAnswer triangles.now halfedges.now hull.now sites work.old work.new result }
 {
-    let f = check_shape(triangles, halfedges, sites);
-    if number(f) != 0 {
+    if let Err(fault) = check_shape(triangles, halfedges, sites) {
         mesh::clear(work);
-        return f;
+        return Err(fault);
     }
-    let g = check_border(triangles, halfedges, hull, sites, work);
-    if number(g) != 0 {
+    if let Err(fault) = check_border(triangles, halfedges, hull, sites, work) {
         mesh::clear(work);
-        return g;
+        return Err(fault);
     }
-    g
+    Ok(())
 }
 
 // Rules 7 to 9 alone. The work slice is left as by rules 7 to 10.
@@ -79,23 +74,21 @@ pub fn check_outline(
     hull: &[u32],
     sites: usize,
     work: &mut [u32],
-) -> MeshFault
+) -> Result<(), MeshFault>
     requires { (length triangles.now % 3 ≡ 0) × (length halfedges.now ≡ length triangles.now) × (length triangles.now < EMPTY)
         × (length hull.now < EMPTY) × (sites ≤ length work.old) }
     ensures { OutlineAnswer triangles.now halfedges.now hull.now sites work.old work.new result }
 {
-    let f = check_shape(triangles, halfedges, sites);
-    if number(f) != 0 {
+    if let Err(fault) = check_shape(triangles, halfedges, sites) {
         mesh::clear(work);
-        return f;
+        return Err(fault);
     }
-    let h = crate::border::check_hull(triangles, halfedges, hull, sites, work);
-    if number(h) != 0 {
+    if let Err(fault) = crate::border::check_hull(triangles, halfedges, hull, sites, work) {
         mesh::clear(work);
-        return h;
+        return Err(fault);
     }
     crate::table::put_leftmost(triangles, halfedges, work);
-    h
+    Ok(())
 }
 
 // The whole check of a lent mesh.
@@ -105,19 +98,19 @@ pub fn check_mesh(
     halfedges: &[u32],
     hull: &[u32],
     work: &mut [u32],
-) -> MeshFault
+) -> Result<(), MeshFault>
     ensures { MeshAnswer (mesh sites.now triangles.now halfedges.now hull.now) work.old work.new result }
 {
     if !counts_ok(sites.len(), triangles.len(), halfedges.len(), hull.len()) {
-        return MeshFault::Counts;
+        return Err(MeshFault::Counts);
     }
     let count = sites.len() / 2;
     if work.len() < count {
-        return MeshFault::Room;
+        return Err(MeshFault::Room);
     }
     let s = plane::points::first_bad_site(sites);
     if s < count {
-        return MeshFault::Coordinate(s);
+        return Err(MeshFault::Coordinate(s));
     }
     check_topology(triangles, halfedges, hull, count, work)
 }

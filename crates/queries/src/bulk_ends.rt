@@ -2,26 +2,27 @@
 ghost use Rattle.std.specs.Prelude.{◌≡◌, ◌/◌, length};
 ghost use Rattle.std.proofs.lemmas.List.Edits.{sets};
 ghost use Rattle.mesh.specs.Accepted.{mesh};
+ghost use Rattle.base.specs.refusal.Number.{answer_number};
 ghost use Rattle.arguments.specs.asking.Asks.{Asked};
 ghost use Rattle.queries.specs.bulk_ends.Ends.{end_from, ends_up_to};
 ghost use Rattle.queries.specs.bulk_ends.Promise.{ends_room, end_rules, EndsAnswer};
 ghost use Rattle.queries.specs.bulk_ends.Steps.{Reachable, EndsAdmission};
 
 use admission::admit;
+use arguments::asking::ask_site;
+use base::refusal::Refusal;
 use mesh::clear;
 use plane::points::point_at;
 
 // Rule 4, then 5 on every point.
-fn ask_points(sites: usize, site: u32, points: &[f64]) -> u32
-    ensures { Asked (end_rules sites site points.now) result }
+fn ask_points(sites: usize, site: u32, points: &[f64]) -> Result<(), Refusal>
+    ensures { Asked (end_rules sites site points.now) (answer_number result) }
 {
-    if sites <= base::numbers::wide(site) {
-        return base::numbers::REFUSED_SITE;
-    }
+    ask_site(sites, site)?;
     if plane::points::first_bad_site(points) < points.len() / 2 {
-        return base::numbers::REFUSED_DESTINATION;
+        return Err(Refusal::Destination);
     }
-    0
+    Ok(())
 }
 
 // Rule 2, by the lengths of the lists.
@@ -44,21 +45,20 @@ fn admit_ends(
     points: &[f64],
     work: &mut [u32],
     out: &mut [u32],
-) -> u32
+) -> Result<(), Refusal>
     ensures { EndsAdmission (mesh sites.now triangles.now halfedges.now hull.now) site points.now
-        work.old work.new out.old out.new result }
+        work.old work.new out.old out.new (answer_number result) }
 {
     if points.len() % 2 != 0 {
-        return base::numbers::REFUSED_COUNT;
+        return Err(Refusal::Count);
     }
     let asked = ask_points(sites.len() / 2, site, points);
     let roomy = room(sites.len() / 2, points.len() / 2, work.len(), out.len());
-    let number = admit(sites, triangles, halfedges, hull, roomy, asked, work);
-    if number < base::numbers::REFUSED_TRIANGLE {
-        return number;
+    let answer = admit(sites, triangles, halfedges, hull, roomy, asked, work);
+    if answer.is_err_and(Refusal::of_mesh) {
+        clear(out);
     }
-    clear(out);
-    number
+    answer
 }
 
 // Writes the end of the path to each point.
@@ -92,7 +92,7 @@ fn write_ends(
     }
 }
 
-// The end of the path to each point, the first path from `site`, each next from the last end; after 0 what is behind the ends stays as it was.
+// The end of the path to each point, the first path from `site`, each next from the last end; what is behind the ends stays as it was.
 pub fn ends(
     sites: &[f64],
     triangles: &[u32],
@@ -102,14 +102,11 @@ pub fn ends(
     points: &[f64],
     work: &mut [u32],
     out: &mut [u32],
-) -> u32
+) -> Result<(), Refusal>
     ensures { EndsAnswer (mesh sites.now triangles.now halfedges.now hull.now) site points.now
-        work.old work.new out.old out.new result }
+        work.old work.new out.old out.new (answer_number result) }
 {
-    let r = admit_ends(sites, triangles, halfedges, hull, site, points, work, out);
-    if r != 0 {
-        return r;
-    }
+    admit_ends(sites, triangles, halfedges, hull, site, points, work, out)?;
     let count = sites.len() / 2;
     write_ends(
         sites,
@@ -120,5 +117,5 @@ pub fn ends(
         points,
         out,
     );
-    0
+    Ok(())
 }

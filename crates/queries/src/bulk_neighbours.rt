@@ -1,5 +1,6 @@
 // The neighbours of all sites at once: the mesh is checked once, then the lists are made.
 ghost use Rattle.base.specs.common.Decide.{Says};
+ghost use Rattle.base.specs.refusal.Number.{answer_number};
 ghost use Rattle.mesh.specs.Accepted.{mesh};
 ghost use Rattle.queries.specs.bulk_neighbours.Promise.{ListsRoom, CellsLent, AllNeighboursAnswer};
 ghost use Rattle.queries.specs.bulk_neighbours.Steps.{ListsAdmission};
@@ -7,6 +8,7 @@ ghost use Rattle.queries.specs.bulk_neighbours.Steps.{ListsAdmission};
 use crate::all_neighbours::{make_lists, nothing_lent};
 use admission::admit;
 use arguments::asking::cells_ok;
+use base::refusal::Refusal;
 use mesh::clear;
 
 // Rule 2, by the lengths of the lists.
@@ -34,9 +36,9 @@ fn admit_lists(
     work: &mut [u32],
     starts: &mut [u32],
     out: &mut [u32],
-) -> u32
+) -> Result<(), Refusal>
     ensures { ListsAdmission (mesh sites.now triangles.now halfedges.now hull.now)
-        work.old work.new starts.old starts.new out.old out.new result }
+        work.old work.new starts.old starts.new out.old out.new (answer_number result) }
 {
     let roomy = room(
         sites.len() / 2,
@@ -46,13 +48,12 @@ fn admit_lists(
         starts.len(),
         out.len(),
     );
-    let number = admit(sites, triangles, halfedges, hull, roomy, 0, work);
-    if number < base::numbers::REFUSED_TRIANGLE {
-        return number;
+    let answer = admit(sites, triangles, halfedges, hull, roomy, Ok(()), work);
+    if answer.is_err_and(Refusal::of_mesh) {
+        clear(starts);
+        clear(out);
     }
-    clear(starts);
-    clear(out);
-    number
+    answer
 }
 
 // Rule 16 on cells that are lent.
@@ -76,18 +77,15 @@ pub fn all_neighbours(
     work: &mut [u32],
     starts: &mut [u32],
     out: &mut [u32],
-) -> u32
+) -> Result<(), Refusal>
     ensures { AllNeighboursAnswer (mesh sites.now triangles.now halfedges.now hull.now)
-        offsets.now indexes.now work.old work.new starts.old starts.new out.old out.new result }
+        offsets.now indexes.now work.old work.new starts.old starts.new out.old out.new (answer_number result) }
 {
-    let r = admit_lists(sites, triangles, halfedges, hull, work, starts, out);
-    if r != 0 {
-        return r;
-    }
+    admit_lists(sites, triangles, halfedges, hull, work, starts, out)?;
     let count = sites.len() / 2;
     if !cells_lent(offsets, indexes, count) {
         clear(work);
-        return base::numbers::REFUSED_OFFSETS;
+        return Err(Refusal::Offsets);
     }
     make_lists(
         triangles,
@@ -98,5 +96,5 @@ pub fn all_neighbours(
         starts,
         out,
     );
-    0
+    Ok(())
 }

@@ -7,40 +7,28 @@ pub mod bulk_ends;
 pub mod bulk_neighbours;
 pub mod clipped;
 
-ghost use Rattle.std.specs.Prelude.{◌≡◌, false, ◌<◌};
-ghost use Rattle.base.specs.numbers.Numbers.{EMPTY};
+ghost use Rattle.std.specs.Prelude.{◌≡◌, ◌<◌};
 ghost use Rattle.mesh.specs.Accepted.{mesh};
-ghost use Rattle.queries.specs.Answers.{listed_of, WalkAnswer, NeighboursAnswer, ClippedAnswer, PathAnswer, found_of, EdgeAnswer};
+ghost use Rattle.queries.specs.Answers.{listed, WalkAnswer, NeighboursAnswer, ClippedAnswer, PathAnswer, found, EdgeAnswer};
 
 use admission::admit_list;
 use arguments::asking::ask_site;
+use base::refusal::Refusal;
 use mesh::Walked;
 use plane::points::Point;
 
-// A number; how many entries of a list were written; whether the last one written ends it.
+// How many entries of a list were written; whether the last one written ends it.
 #[derive(Clone, Copy)]
 pub struct Listed {
-    pub number: u32,
     pub count: u32,
     pub ended: bool,
 }
 
-fn refused(number: u32) -> Listed
-    ensures { result ≡ listed_of number 0 false }
-{
-    Listed {
-        number,
-        count: 0,
-        ended: false,
-    }
-}
-
 fn given(w: Walked) -> Listed
     requires { w.count < 4294967296 }
-    ensures { result ≡ listed_of 0 w.count w.ended }
+    ensures { (result.count ≡ w.count) × (result.ended ≡ w.ended) }
 {
     Listed {
-        number: 0,
         count: w.count as u32,
         ended: w.ended,
     }
@@ -55,17 +43,14 @@ pub fn walk(
     site: u32,
     work: &mut [u32],
     out: &mut [u32],
-) -> Listed
+) -> Result<Listed, Refusal>
     ensures { WalkAnswer (mesh sites.now triangles.now halfedges.now hull.now) site work.old
-        work.new out.old out.new result }
+        work.new out.old out.new (listed result) }
 {
     let asked = ask_site(sites.len() / 2, site);
-    let r = admit_list(sites, triangles, halfedges, hull, asked, work, out);
-    if r != 0 {
-        return refused(r);
-    }
+    admit_list(sites, triangles, halfedges, hull, asked, work, out)?;
     let start = work[base::numbers::wide(site)];
-    given(mesh::walk(halfedges, start, out))
+    Ok(given(mesh::walk(halfedges, start, out)))
 }
 
 // The neighbours of a site, up to the slice's length.
@@ -77,17 +62,14 @@ pub fn neighbours(
     site: u32,
     work: &mut [u32],
     out: &mut [u32],
-) -> Listed
+) -> Result<Listed, Refusal>
     ensures { NeighboursAnswer (mesh sites.now triangles.now halfedges.now hull.now) site
-        work.old work.new out.old out.new result }
+        work.old work.new out.old out.new (listed result) }
 {
     let asked = ask_site(sites.len() / 2, site);
-    let r = admit_list(sites, triangles, halfedges, hull, asked, work, out);
-    if r != 0 {
-        return refused(r);
-    }
+    admit_list(sites, triangles, halfedges, hull, asked, work, out)?;
     let start = work[base::numbers::wide(site)];
-    given(walks::neighbours::neighbours(triangles, halfedges, start, out))
+    Ok(given(walks::neighbours::neighbours(triangles, halfedges, start, out)))
 }
 
 // The path from a site towards p, up to the slice's length.
@@ -100,17 +82,14 @@ pub fn path(
     p: Point,
     work: &mut [u32],
     out: &mut [u32],
-) -> Listed
+) -> Result<Listed, Refusal>
     ensures { PathAnswer (mesh sites.now triangles.now halfedges.now hull.now) site p work.old
-        work.new out.old out.new result }
+        work.new out.old out.new (listed result) }
 {
     let count = sites.len() / 2;
     let asked = arguments::asking::ask_path(count, site, p);
-    let r = admit_list(sites, triangles, halfedges, hull, asked, work, out);
-    if r != 0 {
-        return refused(r);
-    }
-    given(walks::paths::path(sites, triangles, halfedges, &work[..count], site, p, out))
+    admit_list(sites, triangles, halfedges, hull, asked, work, out)?;
+    Ok(given(walks::paths::path(sites, triangles, halfedges, &work[..count], site, p, out)))
 }
 
 // The neighbours of a site after clipping, up to the slice's length.
@@ -124,43 +103,24 @@ pub fn clipped_neighbours(
     site: u32,
     work: &mut [u32],
     out: &mut [u32],
-) -> Listed
+) -> Result<Listed, Refusal>
     ensures { ClippedAnswer (mesh sites.now triangles.now halfedges.now hull.now) offsets.now
-        indexes.now site work.old work.new out.old out.new result }
+        indexes.now site work.old work.new out.old out.new (listed result) }
 {
     let count = sites.len() / 2;
     let asked = ask_site(count, site);
-    let r = admit_list(sites, triangles, halfedges, hull, asked, work, out);
-    if r != 0 {
-        return refused(r);
-    }
+    admit_list(sites, triangles, halfedges, hull, asked, work, out)?;
     if !arguments::asking::cells_ok(offsets, indexes, count) {
         mesh::clear(work);
-        return refused(base::numbers::REFUSED_OFFSETS);
+        return Err(Refusal::Offsets);
     }
     let start = work[base::numbers::wide(site)];
-    given(crate::clipped::clipped_neighbours(
+    Ok(given(crate::clipped::clipped_neighbours(
         triangles, halfedges, offsets, indexes, site, start, out,
-    ))
+    )))
 }
 
-// A number, and a half-edge or `EMPTY`.
-#[derive(Clone, Copy)]
-pub struct Found {
-    pub number: u32,
-    pub edge: u32,
-}
-
-fn no_edge(number: u32) -> Found
-    ensures { result ≡ found_of number EMPTY }
-{
-    Found {
-        number,
-        edge: base::numbers::EMPTY,
-    }
-}
-
-// The half-edge of triangle a on the edge that it shares with triangle b.
+// The half-edge of triangle a on the edge that it shares with triangle b, or `EMPTY`.
 pub fn shared_edge(
     sites: &[f64],
     triangles: &[u32],
@@ -169,17 +129,11 @@ pub fn shared_edge(
     a: u32,
     b: u32,
     work: &mut [u32],
-) -> Found
+) -> Result<u32, Refusal>
     ensures { EdgeAnswer (mesh sites.now triangles.now halfedges.now hull.now) a b
-        work.old work.new result }
+        work.old work.new (found result) }
 {
     let roomy = sites.len() / 2 <= work.len();
-    let r = admission::admit(sites, triangles, halfedges, hull, roomy, 0, work);
-    if r != 0 {
-        return no_edge(r);
-    }
-    Found {
-        number: 0,
-        edge: walks::shared::shared_edge(halfedges, a, b),
-    }
+    admission::admit(sites, triangles, halfedges, hull, roomy, Ok(()), work)?;
+    Ok(walks::shared::shared_edge(halfedges, a, b))
 }

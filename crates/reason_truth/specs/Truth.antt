@@ -1,6 +1,6 @@
 -- Theorem: the reason for a mesh in a box is the true one, said whole (`whole_truth`): what it names has the fault, and nothing that stands earlier in the order of the
 -- rules has one. And where nothing is wrong, of the mesh, of the call's arguments, of the build and of what was asked, no fault is said (`no_fault`).
-use Rattle.std.specs.Prelude.{◌≡◌, refl, List, [], ◌++◌, ◌⊎◌, ◌≢◌, ℕ, ◌<◌, length, get_or}
+use Rattle.std.specs.Prelude.{◌≡◌, refl, List, [], ◌++◌, ◌⊎◌, ◌≢◌, ℕ, ◌<◌, length, get_or, ⊤, Result}
 use Rattle.std.proofs.Common.{ap, inl, inr, arith}
 use Rattle.base.specs.common.Count.{occ}
 use Rattle.base.specs.common.Refusals.{Rule, Keep}
@@ -40,7 +40,7 @@ module _ (m : Mesh) where
       (occ t (neighbours_of m.triangles m.halfedges (table_of m) s) ≡ 0) ⊎ (0 < occ t (staying m.triangles m.halfedges (table_of m) (cell_in k) s))
 
   -- 6, then 7 to 10
-  abbrev pub late_faults : List (Rule MeshFault)
+  abbrev pub late_faults : List (Rule (Result ⊤ MeshFault))
   late_faults = coordinate_rules m.sites ++ topology_rules m.triangles m.halfedges m.hull (site_count m.sites)
 
   -- where a cell is said to be empty although its site is in use, every try of it gave nothing
@@ -66,7 +66,7 @@ module _ (m : Mesh) (room : Type 0) (own : List (Rule ℕ)) (q : Question) (b : 
     counts : (Many → ⊥) → Truth (Number refused_count)
     short : Many → (room → ⊥) → Truth (Number refused_room)
     argument : Many → room → {n : ℕ} → Broken own n → Truth (Number n)
-    lent : Many → room → Keep own → {f : MeshFault} → Broken (late_faults m) f → Truth (of_mesh f)
+    lent : Many → room → Keep own → {f : Result ⊤ MeshFault} → Broken (late_faults m) f → Truth (of_mesh f)
     builder : Accepted m → room → Keep own → {r : Reason} → BuilderTrue m b r → Truth r
     built : Accepted m → room → Keep own → {k : Built} {r : Reason} → build m b ≡ ok k
         → AnswerTrue m.triangles m.halfedges (table_of m) (cell_in m k) q r → InVain m b r → Truth r

@@ -1,5 +1,5 @@
 -- Theorem: the reason that the rules give is true: what it names breaks the rule that it names, and everything that stands earlier holds.
-use Rattle.std.specs.Prelude.{◌≡◌, refl, List, [], ◌∷◌, ◌++◌, ◌⊎◌, ℕ, length, get_or}
+use Rattle.std.specs.Prelude.{◌≡◌, refl, List, [], ◌∷◌, ◌++◌, ◌⊎◌, ℕ, length, get_or, ⊤, Result}
 use Rattle.std.proofs.Common.{append_assoc, inl, inr, ⊎_elim}
 use Rattle.base.specs.common.Refusals.{Rule, once, each, Keeps, Breaks, Keep, Judged, reads}
 use Rattle.base.specs.numbers.Numbers.{refused_count, refused_room}
@@ -41,7 +41,7 @@ module _ (m : Mesh) (room : Type 0) (own : List (Rule ℕ)) (q : Question) (o : 
   abbrev Counts : Type 0
   Counts = Counted (length m.sites) (length m.triangles) (length m.halfedges) (length m.hull)
 
-  abbrev late : List (Rule MeshFault)
+  abbrev late : List (Rule (Result ⊤ MeshFault))
   late = coordinate_rules m.sites ++ topology_rules m.triangles m.halfedges m.hull (site_count m.sites)
 
   -- what each reason says
@@ -49,7 +49,7 @@ module _ (m : Mesh) (room : Type 0) (own : List (Rule ℕ)) (q : Question) (o : 
     bad_counts : (Counts → ⊥) → WhyTrue (Number refused_count)
     no_room : Counts → (room → ⊥) → WhyTrue (Number refused_room)
     bad_argument : Counts → room → {n : ℕ} → Broken own n → WhyTrue (Number n)
-    bad_mesh : Counts → room → Keep own → {f : MeshFault} → Broken late f → WhyTrue (of_mesh f)
+    bad_mesh : Counts → room → Keep own → {f : Result ⊤ MeshFault} → Broken late f → WhyTrue (of_mesh f)
     met : Accepted m → room → Keep own → {f : Fault} → o ≡ refused f → WhyTrue (of_fault f)
     sound : Accepted m → room → Keep own → {b : Built} {r : Reason} → o ≡ ok b
         → AnswerTrue m.triangles m.halfedges (table_of m) (λ s. unmarked (get_or b.cells s [])) q r → WhyTrue r

@@ -1,37 +1,37 @@
 -- A reason: what each fault is as one, and the numbers that tell each. Definitions only.
-use Rattle.std.specs.Prelude.{ℕ, eqb}
+use Rattle.std.specs.Prelude.{ℕ, eqb, ⊤, Result, Ok, Err}
 use Rattle.base.specs.common.Pick.{pick}
 use Rattle.base.specs.numbers.Numbers.{EMPTY, refused_count, refused_room, refused_coordinate, refused_triangle, refused_pairing, refused_hull, refused_fan, refused_circumcenter, refused_extension}
 use Rattle.mesh.specs.declared.MeshFault.{MeshFault}
-use Rattle.mesh.specs.declared.MeshFault.TheVariants.{None, Counts, Room, Coordinate, Triangle, Pairing, HullPlace, HullEdge, BrokenFan}
+use Rattle.mesh.specs.declared.MeshFault.TheVariants.{Counts, Room, Coordinate, Triangle, Pairing, HullPlace, HullEdge, BrokenFan}
 use Rattle.definition.specs.declared.Fault.{Fault}
 use Rattle.reasons.specs.declared.ReasonNumbers.{ReasonNumbers}
 use Rattle.reasons.specs.declared.Reason.{Reason}
 use Rattle.reasons.specs.declared.Reason.TheVariants.{NoFault, Number, AtSite, AtTriangle, AtHalfEdge, AtHullPlace, AtEdge, Unused, TriesEmpty, Dropped}
 
 -- of the mesh: the rule's number and its lowest offender
-abbrev pub of_mesh : MeshFault → Reason
-of_mesh None = NoFault
-of_mesh Counts = Number refused_count
-of_mesh Room = Number refused_room
-of_mesh (Coordinate s) = AtSite refused_coordinate s
-of_mesh (Triangle t) = AtTriangle refused_triangle t
-of_mesh (Pairing e) = AtHalfEdge refused_pairing e
-of_mesh (HullPlace i) = AtHullPlace refused_hull i
-of_mesh (HullEdge e) = AtHalfEdge refused_hull e
-of_mesh (BrokenFan s) = AtSite refused_fan s
+abbrev pub of_mesh : Result ⊤ MeshFault → Reason
+of_mesh (Ok _) = NoFault
+of_mesh (Err Counts) = Number refused_count
+of_mesh (Err Room) = Number refused_room
+of_mesh (Err (Coordinate s)) = AtSite refused_coordinate s
+of_mesh (Err (Triangle t)) = AtTriangle refused_triangle t
+of_mesh (Err (Pairing e)) = AtHalfEdge refused_pairing e
+of_mesh (Err (HullPlace i)) = AtHullPlace refused_hull i
+of_mesh (Err (HullEdge e)) = AtHalfEdge refused_hull e
+of_mesh (Err (BrokenFan s)) = AtSite refused_fan s
 
 -- the place that a fault of the mesh names
-abbrev pub fault_place : MeshFault → ℕ
-fault_place None = 0
-fault_place Counts = 0
-fault_place Room = 0
-fault_place (Coordinate s) = s
-fault_place (Triangle t) = t
-fault_place (Pairing e) = e
-fault_place (HullPlace i) = i
-fault_place (HullEdge e) = e
-fault_place (BrokenFan s) = s
+abbrev pub fault_place : Result ⊤ MeshFault → ℕ
+fault_place (Ok _) = 0
+fault_place (Err Counts) = 0
+fault_place (Err Room) = 0
+fault_place (Err (Coordinate s)) = s
+fault_place (Err (Triangle t)) = t
+fault_place (Err (Pairing e)) = e
+fault_place (Err (HullPlace i)) = i
+fault_place (Err (HullEdge e)) = e
+fault_place (Err (BrokenFan s)) = s
 
 -- of the builder: 11 a triangle, 12 a hull place, the others a cell and an edge of its ring
 unfoldable pub of_fault : Fault → Reason

@@ -91,21 +91,27 @@ fn narrow(n: usize) -> u32
     n as u32
 }
 
-// What the check of a mesh found.
-pub fn of_mesh(f: MeshFault) -> Reason
+// What the check of a mesh answers.
+pub fn of_mesh(f: Result<(), MeshFault>) -> Reason
     requires { fault_place f < 4294967296 }
     ensures { result ≡ of_mesh f }
 {
     match f {
-        MeshFault::None => Reason::NoFault,
-        MeshFault::Counts => Reason::Number(base::numbers::REFUSED_COUNT),
-        MeshFault::Room => Reason::Number(base::numbers::REFUSED_ROOM),
-        MeshFault::Coordinate(s) => Reason::AtSite(base::numbers::REFUSED_COORDINATE, narrow(s)),
-        MeshFault::Triangle(t) => Reason::AtTriangle(base::numbers::REFUSED_TRIANGLE, narrow(t)),
-        MeshFault::Pairing(e) => Reason::AtHalfEdge(base::numbers::REFUSED_PAIRING, narrow(e)),
-        MeshFault::HullPlace(i) => Reason::AtHullPlace(base::numbers::REFUSED_HULL, narrow(i)),
-        MeshFault::HullEdge(e) => Reason::AtHalfEdge(base::numbers::REFUSED_HULL, narrow(e)),
-        MeshFault::BrokenFan(s) => Reason::AtSite(base::numbers::REFUSED_FAN, narrow(s)),
+        Ok(()) => Reason::NoFault,
+        Err(MeshFault::Counts) => Reason::Number(base::numbers::REFUSED_COUNT),
+        Err(MeshFault::Room) => Reason::Number(base::numbers::REFUSED_ROOM),
+        Err(MeshFault::Coordinate(s)) => Reason::AtSite(
+            base::numbers::REFUSED_COORDINATE,
+            narrow(s),
+        ),
+        Err(MeshFault::Triangle(t)) => Reason::AtTriangle(
+            base::numbers::REFUSED_TRIANGLE,
+            narrow(t),
+        ),
+        Err(MeshFault::Pairing(e)) => Reason::AtHalfEdge(base::numbers::REFUSED_PAIRING, narrow(e)),
+        Err(MeshFault::HullPlace(i)) => Reason::AtHullPlace(base::numbers::REFUSED_HULL, narrow(i)),
+        Err(MeshFault::HullEdge(e)) => Reason::AtHalfEdge(base::numbers::REFUSED_HULL, narrow(e)),
+        Err(MeshFault::BrokenFan(s)) => Reason::AtSite(base::numbers::REFUSED_FAN, narrow(s)),
     }
 }
 

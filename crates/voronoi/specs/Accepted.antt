@@ -1,5 +1,5 @@
 -- Theorem: the check answers 0 exactly where the mesh is accepted; and a call that asks nothing of its own refuses with the number of what the check finds.
-use Rattle.std.specs.Prelude.{◌≡◌, refl, List, [], ℕ, ◌≤◌, length}
+use Rattle.std.specs.Prelude.{◌≡◌, refl, List, [], ℕ, ◌≤◌, length, ⊤, Result}
 use Rattle.std.proofs.Common.{◌∙◌}
 use Rattle.base.specs.common.laws.Refusals.{finds_reads}
 use Rattle.base.specs.numbers.Numbers.{EMPTY}
@@ -23,5 +23,5 @@ module _ (m : Mesh) (old : List ℕ) where
   accepted_checked new r a l c = (edge_answers m old c.number).1 (record { mesh = a; room = l; arguments = tt })
 
 -- a call that asks nothing of its own refuses with the number of what the check finds
-pub check_number : (m : Mesh) (w : List ℕ) {f : MeshFault} → Finding m (length w) f → Number m w [] [] (number_of f)
+pub check_number : (m : Mesh) (w : List ℕ) {f : Result ⊤ MeshFault} → Finding m (length w) f → Number m w [] [] (number_of f)
 check_number m w x = finds_reads number_of x

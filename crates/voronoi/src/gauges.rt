@@ -5,12 +5,30 @@ ghost use Rattle.voronoi.specs.Gauges.{ReadMultipoint, WriteMultipoint};
 pub fn voronoi_read_multipoint(file: &[u8], sites: &mut [f64], count: &mut u32) -> u32
     ensures { ReadMultipoint file.now sites.old sites.new count.new result }
 {
-    wkb::multipoint::read(file, sites, count)
+    match wkb::multipoint::read(file, sites) {
+        Ok(n) => {
+            *count = n;
+            0
+        }
+        Err(r) => {
+            *count = 0;
+            r.into()
+        }
+    }
 }
 
 // Refused, the output is as it was; past the file it always is.
 pub fn voronoi_write_multipoint(sites: &[f64], out: &mut [u8], written: &mut usize) -> u32
     ensures { WriteMultipoint sites.now out.old out.new written.new result }
 {
-    wkb::multipoint_writer::write(sites, out, written)
+    match wkb::multipoint_writer::write(sites, out) {
+        Ok(n) => {
+            *written = n;
+            0
+        }
+        Err(r) => {
+            *written = 0;
+            r.into()
+        }
+    }
 }

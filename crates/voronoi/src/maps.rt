@@ -13,7 +13,16 @@ pub fn voronoi_cell_wkb(
     ensures { CellWkb vertices.now offsets.now indexes.now site
         out.old out.new written.new result }
 {
-    wkb::cell_wkb(vertices, offsets, indexes, site, out, written)
+    match wkb::cell_wkb(vertices, offsets, indexes, site, out) {
+        Ok(n) => {
+            *written = n;
+            0
+        }
+        Err(r) => {
+            *written = 0;
+            r.into()
+        }
+    }
 }
 
 // Of vertices as patterns, each as it is.
@@ -28,7 +37,16 @@ pub fn voronoi_cell_wkb_bits(
     ensures { CellWkbBits vertices.now offsets.now indexes.now site
         out.old out.new written.new result }
 {
-    wkb::cell_wkb_bits(vertices, offsets, indexes, site, out, written)
+    match wkb::cell_wkb_bits(vertices, offsets, indexes, site, out) {
+        Ok(n) => {
+            *written = n;
+            0
+        }
+        Err(r) => {
+            *written = 0;
+            r.into()
+        }
+    }
 }
 
 // Of all cells, one after the other, each as `voronoi_cell_wkb` writes it; `starts` has where each begins, where the last ends, then 2^64 - 1.
@@ -43,5 +61,14 @@ pub fn voronoi_all_wkb(
     ensures { AllWkb vertices.now offsets.now indexes.now starts.old starts.new
         out.old out.new written.new result }
 {
-    all_wkb::all_wkb(vertices, offsets, indexes, starts, out, written)
+    match all_wkb::all_wkb(vertices, offsets, indexes, starts, out) {
+        Ok(n) => {
+            *written = n;
+            0
+        }
+        Err(r) => {
+            *written = 0;
+            r.into()
+        }
+    }
 }

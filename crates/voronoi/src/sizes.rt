@@ -5,5 +5,5 @@ ghost use Rattle.voronoi.specs.Sizes.{Areas};
 pub fn voronoi_areas(vertices: &[f64], offsets: &[u32], indexes: &[u32], areas: &mut [f64]) -> u32
     ensures { Areas vertices.now offsets.now indexes.now areas.old areas.new result }
 {
-    areas::cell_areas(vertices, offsets, indexes, areas)
+    base::refusal::number(areas::cell_areas(vertices, offsets, indexes, areas))
 }

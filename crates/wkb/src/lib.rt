@@ -7,7 +7,9 @@ pub mod multipoint;
 pub mod multipoint_writer;
 
 ghost use Rattle.std.specs.Prelude.{◌≡◌, ◌++◌, ◌+◌, ◌*◌, ◌/◌, ◌^◌, ◌<◌, ◌≤◌, length, get_or};
+ghost use Rattle.std.specs.Result.{result_unwrap_or};
 ghost use Rattle.base.specs.common.Decide.{Says};
+ghost use Rattle.base.specs.refusal.Number.{answer_number};
 ghost use Rattle.octets.specs.Bytes.{each};
 ghost use Rattle.octets.specs.Wrote.{Wrote};
 ghost use Rattle.wkb.specs.Polygon.{pattern_at, patterns_of, point_bytes, ring_bytes, closed, head_bytes, patterns};
@@ -15,6 +17,7 @@ ghost use Rattle.arguments.specs.entries.Named.{EntriesNamed};
 ghost use Rattle.wkb.specs.Promise.{ImageFits, image, WkbAnswer, FloatAnswer, EntriesAnswer};
 
 use base::numbers::wide;
+use base::refusal::Refusal;
 use octets::patterns::pattern;
 use octets::put_le;
 
@@ -115,19 +118,16 @@ fn write_entries(
     bits: &[u64],
     entries: &[u32],
     out: &mut [u8],
-    written: &mut usize,
-) -> u32
-    ensures { EntriesAnswer (patterns floats.now ++ bits.now) entries.now out.old out.new written.new result }
+) -> Result<usize, Refusal>
+    ensures { EntriesAnswer (patterns floats.now ++ bits.now) entries.now out.old out.new (result_unwrap_or result 0) (answer_number result) }
 {
-    *written = 0;
     if !arguments::entries::named(entries, (floats.len() + bits.len()) / 2) {
-        return base::numbers::REFUSED_ENTRY;
+        return Err(Refusal::Entry);
     }
     if !has_room(entries.len(), out.len()) {
-        return base::numbers::REFUSED_ROOM;
+        return Err(Refusal::Room);
     }
-    *written = put_polygon(out, floats, bits, entries);
-    0
+    Ok(put_polygon(out, floats, bits, entries))
 }
 
 // Rules 1, 4 and 16, then the others.
@@ -138,37 +138,30 @@ fn write_cell(
     indexes: &[u32],
     site: u32,
     out: &mut [u8],
-    written: &mut usize,
-) -> u32
+) -> Result<usize, Refusal>
     ensures { WkbAnswer (patterns floats.now ++ bits.now) offsets.now indexes.now site
-        out.old out.new written.new result }
+        out.old out.new (result_unwrap_or result 0) (answer_number result) }
 {
-    *written = 0;
     if (floats.len() + bits.len()) % 2 != 0 {
-        return base::numbers::REFUSED_COUNT;
+        return Err(Refusal::Count);
     }
-    let mut number = 0;
-    let entries = cell_query::cell(offsets, indexes, site, &mut number);
-    if number != 0 {
-        return number;
-    }
-    write_entries(floats, bits, entries, out, written)
+    let entries = cell_query::cell(offsets, indexes, site)?;
+    write_entries(floats, bits, entries, out)
 }
 
-// Of vertices as floats.
+// Of vertices as floats. Answers how many bytes were written; refused, the output is as it was.
 pub fn cell_wkb(
     vertices: &[f64],
     offsets: &[u32],
     indexes: &[u32],
     site: u32,
     out: &mut [u8],
-    written: &mut usize,
-) -> u32
+) -> Result<usize, Refusal>
     ensures { FloatAnswer vertices.now offsets.now indexes.now site
-        out.old out.new written.new result }
+        out.old out.new (result_unwrap_or result 0) (answer_number result) }
 {
     let none = [0u64; 1];
-    write_cell(vertices, &none[..0], offsets, indexes, site, out, written)
+    write_cell(vertices, &none[..0], offsets, indexes, site, out)
 }
 
 // Of vertices as patterns.
@@ -178,11 +171,10 @@ pub fn cell_wkb_bits(
     indexes: &[u32],
     site: u32,
     out: &mut [u8],
-    written: &mut usize,
-) -> u32
+) -> Result<usize, Refusal>
     ensures { WkbAnswer vertices.now offsets.now indexes.now site
-        out.old out.new written.new result }
+        out.old out.new (result_unwrap_or result 0) (answer_number result) }
 {
     let none = [0.0f64; 1];
-    write_cell(&none[..0], vertices, offsets, indexes, site, out, written)
+    write_cell(&none[..0], vertices, offsets, indexes, site, out)
 }

@@ -1,9 +1,12 @@
 // Sites read from a MultiPoint in Well-Known Binary (OGC 06-103r4, 8.2), in both byte orders.
 ghost use Rattle.std.specs.Prelude.{◌≡◌, ℕ, ◌+◌, ◌*◌, ◌/◌, ◌^◌, ◌≤◌, ◌<◌, length, drop};
+ghost use Rattle.std.specs.Result.{result_unwrap_or};
 ghost use Rattle.base.specs.common.Decide.{Says};
+ghost use Rattle.base.specs.refusal.Number.{answer_number};
 ghost use Rattle.wkb.specs.multipoint.Fields.{field, StartsAs, point_count, point_place, Shape, coordinate_of};
 ghost use Rattle.wkb.specs.multipoint.Promise.{SiteLimits, firsts, SoundPoints, entry_of, ReadAnswer, SoundAnswer};
 
+use base::refusal::Refusal;
 use octets::patterns::float_of;
 
 // The number of the n bytes from a place on in the structure that begins at `at`, in its order.
@@ -105,33 +108,30 @@ pub fn limits_ok(count: usize) -> bool
 }
 
 // Rules 1, 2 and 6 on a file that is a MultiPoint, and its sites.
-fn read_sound(file: &[u8], sites: &mut [f64], count: &mut u32) -> u32
+fn read_sound(file: &[u8], sites: &mut [f64]) -> Result<u32, Refusal>
     requires { Shape file.now }
-    ensures { SoundAnswer file.now sites.old sites.new count.new result }
+    ensures { SoundAnswer file.now sites.old sites.new (result_unwrap_or result 0) (answer_number result) }
 {
-    *count = 0;
     let n = count_of(file);
     if !limits_ok(n) {
-        return base::numbers::REFUSED_COUNT;
+        return Err(Refusal::Count);
     }
     if sites.len() < 2 * n {
-        return base::numbers::REFUSED_ROOM;
+        return Err(Refusal::Room);
     }
     if !coordinates_ok(file, n) {
-        return base::numbers::REFUSED_COORDINATE;
+        return Err(Refusal::Coordinate);
     }
     put_sites(file, n, sites);
-    *count = n as u32;
-    0
+    Ok(n as u32)
 }
 
-// Rule 21 over the whole file, then the others.
-pub fn read(file: &[u8], sites: &mut [f64], count: &mut u32) -> u32
-    ensures { ReadAnswer file.now sites.old sites.new count.new result }
+// Rule 21 over the whole file, then the others. Answers how many sites were read; refused, the sites are as they were.
+pub fn read(file: &[u8], sites: &mut [f64]) -> Result<u32, Refusal>
+    ensures { ReadAnswer file.now sites.old sites.new (result_unwrap_or result 0) (answer_number result) }
 {
-    *count = 0;
     if !shape_ok(file) {
-        return base::numbers::REFUSED_POINTS;
+        return Err(Refusal::Points);
     }
-    read_sound(file, sites, count)
+    read_sound(file, sites)
 }

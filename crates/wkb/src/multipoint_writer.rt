@@ -1,5 +1,7 @@
 // Sites written as a MultiPoint in Well-Known Binary (OGC 06-103r4, 8.2), little-endian throughout.
 ghost use Rattle.std.specs.Prelude.{true, ◌+◌, ◌*◌, ◌/◌, ◌≤◌, ◌<◌, length};
+ghost use Rattle.std.specs.Result.{result_unwrap_or};
+ghost use Rattle.base.specs.refusal.Number.{answer_number};
 ghost use Rattle.octets.specs.Bytes.{each};
 ghost use Rattle.octets.specs.Wrote.{Wrote};
 ghost use Rattle.wkb.specs.multipoint.MultiPoint.{file_point, start_bytes, file_point_bytes};
@@ -7,6 +9,7 @@ ghost use Rattle.wkb.specs.multipoint.Fields.{point_place};
 ghost use Rattle.wkb.specs.multipoint.Promise.{firsts};
 ghost use Rattle.wkb.specs.multipoint_writer.Promise.{site_point, file_of, WriteAnswer};
 
+use base::refusal::Refusal;
 use octets::patterns::pattern;
 use octets::put_le;
 
@@ -61,24 +64,22 @@ fn put_file(out: &mut [u8], sites: &[f64]) -> usize
     put_points(out, points, sites)
 }
 
-// Rules 1, 2 and 6, and the file.
-pub fn write(sites: &[f64], out: &mut [u8], written: &mut usize) -> u32
-    ensures { WriteAnswer sites.now out.old out.new written.new result }
+// Rules 1, 2 and 6, and the file. Answers how many bytes were written; refused, the output is as it was.
+pub fn write(sites: &[f64], out: &mut [u8]) -> Result<usize, Refusal>
+    ensures { WriteAnswer sites.now out.old out.new (result_unwrap_or result 0) (answer_number result) }
 {
-    *written = 0;
     if sites.len() % 2 != 0 {
-        return base::numbers::REFUSED_COUNT;
+        return Err(Refusal::Count);
     }
     let count = sites.len() / 2;
     if !crate::multipoint::limits_ok(count) {
-        return base::numbers::REFUSED_COUNT;
+        return Err(Refusal::Count);
     }
     if out.len() < 9 + 21 * count {
-        return base::numbers::REFUSED_ROOM;
+        return Err(Refusal::Room);
     }
     if plane::points::first_bad_site(sites) < count {
-        return base::numbers::REFUSED_COORDINATE;
+        return Err(Refusal::Coordinate);
     }
-    *written = put_file(out, sites);
-    0
+    Ok(put_file(out, sites))
 }

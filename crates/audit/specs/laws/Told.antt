@@ -11,8 +11,7 @@ use Rattle.plane.specs.centers.Circumcenter.{ok_center}
 use Rattle.plane.specs.declared.boxes.BoundingBox.{BoundingBox}
 use Rattle.areas.specs.Promise.{KeepsRule}
 use Rattle.auditing.specs.total.Total.{missing_of}
-use Rattle.auditing.specs.Verdict.{verdict_on}
-use Rattle.auditing.specs.declared.AuditVerdict.{AuditVerdict}
+use Rattle.auditing.specs.Verdict.{AuditVerdict, verdict_on}
 use Rattle.audit.specs.turns.Turned.{turned_at, turned_count}
 use Rattle.audit.specs.turns.laws.Turns.{count_few}
 use Rattle.audit.specs.text.AuditLines.{audit_lines}

@@ -1,30 +1,44 @@
 -- The answer about the edge that two cells share, from the tests that the code makes.
-use Rattle.std.specs.Prelude.{◌≡◌, refl, Bool, false, List, ℕ, ◌+◌, ◌-◌, ◌≤◌, ◌<◌, length}
-use Rattle.std.proofs.Common.{◌∙◌, arith}
+use Rattle.std.specs.Prelude.{◌≡◌, refl, Bool, List, ◌≢◌, ℕ, ◌+◌, ◌-◌, ◌<◌, length, Ok, Err}
+use Rattle.std.proofs.Common.{◌∙◌, ⊎_elim, arith, ne_eqb}
 use Rattle.base.specs.common.laws.Refusals.{breaks, keeps, nothing}
-use Rattle.base.specs.numbers.Numbers.{refused_site, refused_offsets}
+use Rattle.base.specs.numbers.Numbers.{refused_site}
+use Rattle.base.specs.declared.refusal.Refusal.{Refusal}
+use Rattle.base.specs.declared.refusal.Refusal.TheVariants as refusal
+use Rattle.base.specs.refusal.Number.{number_of}
+use Rattle.base.specs.refusal.laws.Number.{some_number}
 use Rattle.walks.specs.shared.Cells.{Cells, share_edge_of}
-use Rattle.arguments.specs.asking.Asks.{CellsOf}
-use Rattle.cell_query.specs.declared.Told.{Told}
-use Rattle.cell_query.specs.SharedEdge.{told_of, SharesAnswer}
+use Rattle.arguments.specs.asking.Asks.{site_rules, Asked, CellsOf}
+use Rattle.arguments.specs.asking.laws.Asks.{site_below}
+use Rattle.cell_query.specs.SharedEdge.{told, SharesAnswer}
 
--- two cells: n is the count, s and t the sites as the code has them
-module _ (off ix : List ℕ) (a b n s t : ℕ) (count : n ≡ length off - 1) (p : s ≡ a) (q : t ≡ b) where
-  pub no_first : (x : Told) → n ≤ s → x ≡ told_of refused_site false → SharesAnswer off ix a b x
-  no_first x l e = rw e (record { number = breaks (λ y. omega (arith, y.0)); yes = refl })
+-- what rule 4 refuses
+no_cell : (n s : ℕ) {k : ℕ} → Asked (site_rules n s) k → k ≢ 0 → (s < n → ⊥) × (k ≡ refused_site)
+no_cell n s a z = ⊎_elim (λ x. x) (λ x. absurd (z x.1)) a.found.judged
 
-  pub no_second : (x : Told) → n ≤ t → x ≡ told_of refused_site false → SharesAnswer off ix a b x
-  no_second x l e = rw e (record { number = breaks (λ y. omega (arith, y.1)); yes = refl })
+-- two cells: n is the count
+module _ (off ix : List ℕ) (a b n : ℕ) (count : n ≡ length off - 1) where
+  pub no_first : (r : Refusal) → Asked (site_rules n a) (number_of r) → SharesAnswer off ix a b (told (Err r))
+  no_first r p =
+      let x = no_cell n a p (some_number r) in
+      record { number = rw x.1 (breaks (λ y. x.0 (omega (arith, y.0)))); yes = rw (ne_eqb (number_of r) 0 (some_number r)) refl }
 
-  module _ (l : s < n) (m : t < n) where
+  pub no_second : (r : Refusal) → Asked (site_rules n b) (number_of r) → SharesAnswer off ix a b (told (Err r))
+  no_second r q =
+      let x = no_cell n b q (some_number r) in
+      record { number = rw x.1 (breaks (λ y. x.0 (omega (arith, y.1)))); yes = rw (ne_eqb (number_of r) 0 (some_number r)) refl }
+
+  module _ (p : Asked (site_rules n a) 0) (q : Asked (site_rules n b) 0) where
     below : (a < length off - 1) × (b < length off - 1)
-    below = omega arith
+    below = rw (← count) (site_below n a p refl, site_below n b q refl)
 
-    pub none_cut : (x : Told) → (CellsOf off ix n → ⊥) → x ≡ told_of refused_offsets false → SharesAnswer off ix a b x
-    none_cut x c e = rw e (record { number = keeps below (breaks (λ y. c (rw count y))); yes = refl })
+    pub none_cut : (CellsOf off ix n → ⊥) → SharesAnswer off ix a b (told (Err refusal.Offsets))
+    none_cut c = record { number = keeps below (breaks (λ y. c (rw count y))); yes = refl }
 
-    pub shares_asks : CellsOf off ix n → Cells off (length ix) × (s + 1 < length off) × (t + 1 < length off)
-    shares_asks c = (c.cut, omega (arith, c.many), omega (arith, c.many))
+    -- s and t are the sites as indexes
+    module _ (s t : ℕ) (e : s ≡ a) (f : t ≡ b) (c : CellsOf off ix n) where
+      pub shares_asks : Cells off (length ix) × (s + 1 < length off) × (t + 1 < length off)
+      shares_asks = (c.cut, omega (arith, c.many, below.0), omega (arith, c.many, below.1))
 
-    pub shares_told : (y : Bool) → CellsOf off ix n → y ≡ share_edge_of off ix s t → SharesAnswer off ix a b (told_of 0 y)
-    shares_told y c e = record { number = keeps below (keeps (rw (← count) c) nothing); yes = e ∙ rw (p, q) }
+      pub shares_told : (y : Bool) → y ≡ share_edge_of off ix s t → SharesAnswer off ix a b (told (Ok y))
+      shares_told y g = record { number = keeps below (keeps (rw (← count) c) nothing); yes = g ∙ rw (e, f) refl }

@@ -1,5 +1,5 @@
 -- The promise of the check on the grid: the rules in the order in which they are tried, the answer's numbers, and the work slice at exit.
-use Rattle.std.specs.Prelude.{◌≡◌, List, [], ◌∷◌, ◌++◌, ℕ, ◌/◌, ◌≤◌, eqb, ℤ, length}
+use Rattle.std.specs.Prelude.{◌≡◌, List, [], ◌∷◌, ◌++◌, ℕ, ◌/◌, ◌≤◌, eqb, ℤ, length, ⊤, Result}
 use Rattle.base.specs.common.Pick.{pick}
 use Rattle.base.specs.common.Refusals.{Rule, once, each, reads, Finds}
 use Rattle.base.specs.numbers.Numbers.{EMPTY, refused_count, refused_room, refused_grid}
@@ -26,7 +26,7 @@ grid_mesh grid tri he hull = record { grid = grid; triangles = tri; halfedges = 
 abbrev pub grid_sites : GridMesh → ℕ
 grid_sites m = length m.grid / 2
 
-abbrev pub refused_by : MeshFault → GridAnswer
+abbrev pub refused_by : Result ⊤ MeshFault → GridAnswer
 refused_by f = Refused (number_of f)
 
 -- 1, 2 for a work slice of w entries, 22 in the place of 6, 7 to 10

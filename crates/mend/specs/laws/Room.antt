@@ -1,5 +1,5 @@
 -- The rules of mending on slices that are long enough, with the rule on a box that is put in between 1 and all others.
-use Rattle.std.specs.Prelude.{◌≡◌, Bool, true, false, List, [], ◌∷◌, ◌++◌, ◌≢◌, ℕ, ◌/◌, Float, length}
+use Rattle.std.specs.Prelude.{◌≡◌, Bool, true, false, List, [], ◌∷◌, ◌++◌, ◌≢◌, ℕ, ◌/◌, Float, length, Err}
 use Rattle.std.proofs.Math.Path.{refl}
 use Rattle.std.proofs.Common.{sym, ◌∙◌, inl, inr, ⊎_elim, arith}
 use Rattle.base.specs.common.Refusals.{Rule, once, each, reads, Judged, Finds}
@@ -28,7 +28,7 @@ judged_through rest a c d P Q S m n s (inr (p, inr (k, j))) = inr (p, inr (s, j)
 
 module _ (sites : List Float) (tri he hull : List ℕ) where
   abbrev rest : List (Rule ℕ)
-  rest = reads number_of (coordinate_rules sites ++ each Triangle (length tri / 3) (SoundAt tri (site_count sites)) ∷ []) ++ work_rules tri (site_count sites)
+  rest = reads number_of (coordinate_rules sites ++ each (λ t. Err (Triangle t)) (length tri / 3) (SoundAt tri (site_count sites)) ∷ []) ++ work_rules tri (site_count sites)
 
   abbrev Counts : Type 0
   Counts = Counted (length sites) (length tri) (length he) (length hull)

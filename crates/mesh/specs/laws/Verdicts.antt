@@ -1,17 +1,28 @@
--- What it tells that no rule is broken: rules 7 to 10 are `Topology`, and all of them are `Accepted`.
-use Rattle.std.specs.Prelude.{◌≡◌, refl, List, ◌≢◌, ℕ, ◌%◌, ◌≤◌, ◌<◌, length}
+-- What it tells that no rule is broken: rules 7 to 10 are `Topology`, and all of them are `Accepted`. And a fault has a number, from 7 on where it is of rules 7 to 10.
+use Rattle.std.specs.Prelude.{◌≡◌, refl, List, ◌≢◌, ℕ, ◌%◌, ◌≤◌, ◌<◌, length, ⊤, Result, Ok, Err}
 use Rattle.std.proofs.Common.{arith}
 use Rattle.base.specs.common.Refusals.{Keep, Finds}
 use Rattle.base.specs.common.laws.Refusals.{finds_answers}
 use Rattle.base.specs.numbers.Numbers.{EMPTY, refused_triangle}
 use Rattle.mesh.specs.declared.MeshFault.{MeshFault}
-use Rattle.mesh.specs.declared.MeshFault.TheVariants.{None}
+use Rattle.mesh.specs.declared.MeshFault.TheVariants.{Counts, Room, Coordinate, Triangle, Pairing, HullPlace, HullEdge, BrokenFan}
 use Rattle.mesh.specs.Mesh.{next_of, end_of}
 use Rattle.mesh.specs.Accepted.{Mesh, Accepted, site_count, Topology}
 use Rattle.mesh.specs.Faults.{number_of, topology_rules, mesh_rules}
 use Rattle.mesh.specs.laws.Next.{next_lt}
 use Rattle.mesh.specs.laws.Facts.{few_entries, sound_site}
 use Rattle.mesh.specs.laws.Border.{places_hull, hull_places, hull_border}
+
+-- a fault has a number
+pub fault_numbered : (f : MeshFault) → number_of (Err f) ≢ 0
+fault_numbered Counts q = omega arith
+fault_numbered Room q = omega arith
+fault_numbered (Coordinate s) q = omega arith
+fault_numbered (Triangle t) q = omega arith
+fault_numbered (Pairing e) q = omega arith
+fault_numbered (HullPlace i) q = omega arith
+fault_numbered (HullEdge e) q = omega arith
+fault_numbered (BrokenFan s) q = omega arith
 
 module _ (tri he hull : List ℕ) (sites : ℕ) where
   pub topology_keep : Topology tri he hull sites → Keep (topology_rules tri he hull sites)
@@ -30,7 +41,7 @@ module _ (tri he hull : List ℕ) (sites : ℕ) where
   }
 
   -- a refusal has a number from 7 on
-  pub topology_late : {f : MeshFault} → Finds (topology_rules tri he hull sites) None f → number_of f ≢ 0 → refused_triangle ≤ number_of f
+  pub topology_late : {f : Result ⊤ MeshFault} → Finds (topology_rules tri he hull sites) (Ok tt) f → number_of f ≢ 0 → refused_triangle ≤ number_of f
   topology_late =
       finds_answers (λ f. number_of f ≢ 0 → refused_triangle ≤ number_of f) (λ n. absurd (n refl))
       (λ k n. omega arith, (λ k n. omega arith, (λ k n. omega arith, (λ k n. omega arith, (λ k n. omega arith, tt)))))

@@ -1,11 +1,11 @@
 -- How rule 9 is tested with one list of numbers: each site of the hull is marked with its place, and loses its mark at the first unpaired
 -- half-edge from it to the next.
-use Rattle.std.specs.Prelude.{◌≡◌, List, Bool, false, ℕ, zero, suc, ◌≤◌, ◌<◌, ltb, eqb, length, get_or, set, replicate}
+use Rattle.std.specs.Prelude.{◌≡◌, List, Bool, false, ℕ, zero, suc, ◌≤◌, ◌<◌, ltb, eqb, length, get_or, set, replicate, ⊤, Result, Ok, Err}
 use Rattle.base.specs.common.Pick.{pick}
 use Rattle.base.specs.numbers.Numbers.{EMPTY}
 use Rattle.mesh.specs.Mesh.{start_of, end_of, pair_of}
 use Rattle.mesh.specs.Hull.{next_site}
-use Rattle.mesh.specs.declared.MeshFault.TheVariants.{None, HullPlace, HullEdge}
+use Rattle.mesh.specs.declared.MeshFault.TheVariants.{HullPlace, HullEdge}
 use Rattle.mesh.specs.declared.MeshFault.{MeshFault}
 
 -- the marks: each site that stands at a place below n has that place
@@ -56,5 +56,5 @@ unfoldable pub lowest_of : ℕ → ℕ → Bool → ℕ
 lowest_of old e sound = pick sound (λ _. old) (λ _. pick (ltb e old) (λ _. e) (λ _. old))
 
 -- the answer from what the loops found
-unfoldable pub hull_fault_of : ℕ → ℕ → ℕ → ℕ → MeshFault
-hull_fault_of kept places stray edges = pick (ltb kept places) (λ _. HullPlace kept) (λ _. pick (ltb stray edges) (λ _. HullEdge stray) (λ _. None))
+unfoldable pub hull_fault_of : ℕ → ℕ → ℕ → ℕ → Result ⊤ MeshFault
+hull_fault_of kept places stray edges = pick (ltb kept places) (λ _. Err (HullPlace kept)) (λ _. pick (ltb stray edges) (λ _. Err (HullEdge stray)) (λ _. Ok tt))

@@ -30,8 +30,7 @@ use Rattle.queries.specs.clipped.laws.Clippable.{clippable}
 use Rattle.arguments.specs.asking.Asks.{site_rules, path_rules, Asked, CellsOf, cell_rules}
 use Rattle.admission.specs.Admission.{ListAdmission}
 use Rattle.admission.specs.laws.Admits.{asked_answers, admitted, admits_few, admits_rules}
-use Rattle.queries.specs.declared.Listed.{Listed}
-use Rattle.queries.specs.Answers.{out_after, count_after, ended_after, listed_of, ListAnswer, Number, ClippedAnswer}
+use Rattle.queries.specs.Answers.{out_after, count_after, ended_after, ListTold, listed_of, ListAnswer, Number, ClippedAnswer}
 use Rattle.admission.specs.laws.LeftmostTable.{table_long, table_at, table_part}
 use Rattle.queries.specs.laws.Lengths.{starts_length, path_length, clipped_length, few}
 
@@ -56,7 +55,7 @@ module _ {m : Mesh} {k : ℕ} {w w' o o' : List ℕ} {r : ℕ} (a : ListAdmissio
       a.admission.number own some q.found
 
   -- ---- refused by the rules up to 10, whatever else the query asks
-  list_refused : {Numbered : ℕ → Type 0} (whole : List ℕ) (x : Listed) → k < refused_triangle → Numbered r → r ≢ 0 → x ≡ listed_of r 0 false
+  list_refused : {Numbered : ℕ → Type 0} (whole : List ℕ) (x : ListTold) → k < refused_triangle → Numbered r → r ≢ 0 → x ≡ listed_of r 0 false
       → ListAnswer Numbered m whole w w' o o' x
   unfolding out_after at_exit count_after ended_after
   list_refused whole x l d n q =
@@ -105,7 +104,7 @@ module _ {m : Mesh} {k : ℕ} {w w' o o' : List ℕ} {r : ℕ} (a : ListAdmissio
         }
 
     -- the answer: the list as it was handed out
-    list_given : {Numbered : ℕ → Type 0} (whole o'' : List ℕ) (c : ℕ) (b : Bool) (x : Listed) → Numbered 0 → Fills whole o o'' c b → x ≡ listed_of 0 c b
+    list_given : {Numbered : ℕ → Type 0} (whole o'' : List ℕ) (c : ℕ) (b : Bool) (x : ListTold) → Numbered 0 → Fills whole o o'' c b → x ≡ listed_of 0 c b
         → ListAnswer Numbered m whole w w' o o'' x
     unfolding out_after at_exit count_after ended_after
     list_given whole o'' c b x d f q = rw q (record {
@@ -118,17 +117,17 @@ module _ {m : Mesh} {k : ℕ} {w w' o o' : List ℕ} {r : ℕ} (a : ListAdmissio
 
   -- ---- the answer of a query that asks nothing after rule 10
   module _ {own : List (Rule ℕ)} (q : Asked own k) (some : Answers (λ b. b ≡ 0 → ⊥) own) (whole : List ℕ) where
-    pub refuses : (x : Listed) → r ≢ 0 → x ≡ listed_of r 0 false
+    pub refuses : (x : ListTold) → r ≢ 0 → x ≡ listed_of r 0 false
         → ListAnswer (Finds (call_rules m (site_count m.sites ≤ length w) own) 0) m whole w w' o o' x
     refuses x n e = list_refused whole x q.small (list_number q some) n e
 
-    pub gives : r ≡ 0 → (o'' : List ℕ) (c : ℕ) (b : Bool) (x : Listed) → Fills whole o o'' c b → x ≡ listed_of 0 c b
+    pub gives : r ≡ 0 → (o'' : List ℕ) (c : ℕ) (b : Bool) (x : ListTold) → Fills whole o o'' c b → x ≡ listed_of 0 c b
         → ListAnswer (Finds (call_rules m (site_count m.sites ≤ length w) own) 0) m whole w w' o o'' x
     gives z o'' c b x f e = list_given z whole o'' c b x (rw z at (list_number q some)) f e
 
   -- ---- rule 16 after the others: the cells, for the clipped neighbours
   module _ {s : ℕ} (q : Asked (site_rules (site_count m.sites) s) k) (off ix : List ℕ) where
-    pub clipped_refused : (x : Listed) → r ≢ 0 → x ≡ listed_of r 0 false → ClippedAnswer m off ix s w w' o o' x
+    pub clipped_refused : (x : ListTold) → r ≢ 0 → x ≡ listed_of r 0 false → ClippedAnswer m off ix s w w' o o' x
     clipped_refused x n e =
         list_refused (clipped_neighbours_of m.triangles m.halfedges (table_of m) off ix s) x q.small
         (finds_first (cell_rules off ix (site_count m.sites)) n (list_number q (search rules))) n e
@@ -139,7 +138,7 @@ module _ {m : Mesh} {k : ℕ} {w w' o o' : List ℕ} {r : ℕ} (a : ListAdmissio
           finds_after (call_rules m (site_count m.sites ≤ length w) (site_rules (site_count m.sites) s))
           (finds_keep (λ r. r ≡ 0) (search rules) z (list_number q (search rules))) f
 
-      pub clipped_denied : (w'' : List ℕ) (x : Listed) → (CellsOf off ix (site_count m.sites) → ⊥) → w'' ≡ replicate (length w') EMPTY
+      pub clipped_denied : (w'' : List ℕ) (x : ListTold) → (CellsOf off ix (site_count m.sites) → ⊥) → w'' ≡ replicate (length w') EMPTY
           → x ≡ listed_of refused_offsets 0 false → ClippedAnswer m off ix s w w'' o o' x
       unfolding out_after count_after ended_after
       clipped_denied w'' x n c e = rw e (record {
@@ -150,7 +149,7 @@ module _ {m : Mesh} {k : ℕ} {w w' o o' : List ℕ} {r : ℕ} (a : ListAdmissio
         ended = refl;
       })
 
-      pub clipped_given : (o'' : List ℕ) (c : ℕ) (b : Bool) (x : Listed) → CellsOf off ix (site_count m.sites)
+      pub clipped_given : (o'' : List ℕ) (c : ℕ) (b : Bool) (x : ListTold) → CellsOf off ix (site_count m.sites)
           → Fills (clipped_neighbours_of m.triangles m.halfedges (table_of m) off ix s) o o'' c b → x ≡ listed_of 0 c b → ClippedAnswer m off ix s w w' o o'' x
       clipped_given o'' c b x ok f e =
           list_given z (clipped_neighbours_of m.triangles m.halfedges (table_of m) off ix s) o'' c b x (clipped_number (keeps ok nothing)) f e

@@ -1,5 +1,5 @@
 -- The steps on the way to a reason: a refusal by the rules up to 10 with its place, and the whole of a build with what it met.
-use Rattle.std.specs.Prelude.{◌≡◌, List, ◌≢◌, ℕ, ◌≤◌, ◌<◌}
+use Rattle.std.specs.Prelude.{◌≡◌, List, ◌≢◌, ℕ, ◌≤◌, ◌<◌, ⊤, Result}
 use Rattle.base.specs.numbers.Numbers.{refused_coordinate}
 use Rattle.mesh.specs.declared.MeshFault.{MeshFault}
 use Rattle.mesh.specs.Accepted.{Mesh}
@@ -19,7 +19,7 @@ use Rattle.reasons.specs.Reason.{of_mesh, of_fault}
 -- below 6 the number alone; from 6 on what the check of the mesh finds
 pub data Located (m : Mesh) (n : ℕ) (old new : List ℕ) : Reason → Type 0 where
   alone : n < refused_coordinate → new ≡ old → Located m n old new (Number n)
-  placed : (f : MeshFault) → refused_coordinate ≤ n → MeshAnswer m old new f → Located m n old new (of_mesh f)
+  placed : (f : Result ⊤ MeshFault) → refused_coordinate ≤ n → MeshAnswer m old new f → Located m n old new (of_mesh f)
 
 -- refused by the rules up to 10, the slices being `mid` by then; or the build went its way
 pub data Explains (m : Mesh) (asked : ℕ) (o : Outcome Fault Built) (old new : Slices) : Reason → Type 0 where

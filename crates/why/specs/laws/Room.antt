@@ -1,5 +1,5 @@
 -- The slices of the program have room for every form, so its reason is by the other rules alone.
-use Rattle.std.specs.Prelude.{◌≡◌, true, List, ◌∷◌, ◌++◌, ℕ, length}
+use Rattle.std.specs.Prelude.{◌≡◌, true, List, ◌∷◌, ◌++◌, ℕ, length, Err}
 use Rattle.std.proofs.Common.{inl, inr}
 use Rattle.base.specs.common.Refusals.{Rule, once, reads, Judged}
 use Rattle.plane.specs.declared.given.Given.{Given}
@@ -32,7 +32,7 @@ module _ (m : Mesh) (old : Slices) (long : ProgramSlices old) (sized : MeshSized
     with_room a =
         let rest = reads Number own ++ reads of_mesh (coordinate_rules m.sites ++ topology_rules m.triangles m.halfedges m.hull (site_count m.sites)) ++ build_rules o in
         let counted = Counted (length m.sites) (length m.triangles) (length m.halfedges) (length m.hull) in
-        record { judged = judged_kept rest (answered m q o) r (of_mesh Counts) (of_mesh Room) counted (room_of m old ≡ true) (Unit {0}) (roomy m sized old long) tt a.reason.judged }
+        record { judged = judged_kept rest (answered m q o) r (of_mesh (Err Counts)) (of_mesh (Err Room)) counted (room_of m old ≡ true) (Unit {0}) (roomy m sized old long) tt a.reason.judged }
 
   pub of_mesh_lem : (g : Given) (q : Question) {new : Slices} {r : Reason} → Explained m g q old new r → WhyOfMesh q m g r
   of_mesh_lem g q a = with_room a

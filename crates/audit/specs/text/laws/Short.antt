@@ -1,5 +1,5 @@
 -- How long the lines are.
-use Rattle.std.specs.Prelude.{ℕ, ◌+◌, ◌/◌, ◌%◌, ◌≤◌, Bool, true, false, List, [], ◌∷◌, ◌++◌, length, drop, pos, ◌==◌, Float}
+use Rattle.std.specs.Prelude.{ℕ, ◌+◌, ◌/◌, ◌%◌, ◌≤◌, Bool, true, false, List, [], ◌∷◌, ◌++◌, length, drop, pos, ◌==◌, Float, Ok, Err}
 use Rattle.std.proofs.Common.{arith, length-append, length-drop}
 use Rattle.std.specs.Float.{fin}
 use Rattle.std.specs.Float.Ieee.{le, neg}
@@ -9,8 +9,8 @@ use Rattle.printing.specs.parts.Text.{ascii, decimal}
 use Rattle.printing.specs.parts.Labelled.{entries}
 use Rattle.printing.specs.parts.laws.Decimal.{decimal_short}
 use Rattle.printing.specs.parts.laws.Labelled.{entries_short}
-use Rattle.auditing.specs.declared.AuditVerdict.{AuditVerdict}
-use Rattle.auditing.specs.declared.AuditVerdict.TheVariants.{Sound, Ring, Outside, Nearer, Uncovered, Twin}
+use Rattle.auditing.specs.Verdict.{AuditVerdict}
+use Rattle.auditing.specs.declared.AuditFault.TheVariants.{Ring, Outside, Nearer, Uncovered, Twin}
 use Rattle.audit.specs.text.Share.{billionths, fraction, pointed, billion, share_text}
 use Rattle.audit.specs.text.AuditLines.{labelled_line, pair_line, triple_line, missing_line, verdict_line, turned_line, audit_lines}
 
@@ -61,12 +61,12 @@ unfolding missing_line
 missing_short x = omega (arith, length-append (ascii "missing " ++ share_text x) (ascii "\n"), length-append (ascii "missing ") (share_text x), share_short x)
 
 verdict_short : (t : AuditVerdict) (x : Float) → length (verdict_line t x) ≤ 80
-verdict_short Sound x = omega arith
-verdict_short (Ring s) x = omega (arith, number_short (ascii "site") s (ascii ": its piece does not run once round, the right way\n"))
-verdict_short (Outside s e) x = omega (arith, pair_short (ascii "site") s (ascii ": vertex") e (ascii " is outside the box\n"))
-verdict_short (Nearer s e o) x = omega (arith, triple_short (ascii "site") s (ascii ": vertex") e (ascii " is nearer to site") o)
-verdict_short Uncovered x = omega (arith, missing_short x)
-verdict_short (Twin s o) x = omega (arith, pair_short (ascii "sites") o (ascii " and") s (ascii " stand at one place\n"))
+verdict_short (Ok _) x = omega arith
+verdict_short (Err (Ring s)) x = omega (arith, number_short (ascii "site") s (ascii ": its piece does not run once round, the right way\n"))
+verdict_short (Err (Outside s e)) x = omega (arith, pair_short (ascii "site") s (ascii ": vertex") e (ascii " is outside the box\n"))
+verdict_short (Err (Nearer s e o)) x = omega (arith, triple_short (ascii "site") s (ascii ": vertex") e (ascii " is nearer to site") o)
+verdict_short (Err Uncovered) x = omega (arith, missing_short x)
+verdict_short (Err (Twin s o)) x = omega (arith, pair_short (ascii "sites") o (ascii " and") s (ascii " stand at one place\n"))
 
 turned_short : (count total low : ℕ) → length (turned_line count total low) ≤ 70
 unfolding turned_line

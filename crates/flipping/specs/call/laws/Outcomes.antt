@@ -1,5 +1,5 @@
 -- How the promise comes about: refused by 1 or 2, by 7 to 10 or 23, or made.
-use Rattle.std.specs.Prelude.{◌≡◌, refl, Bool, List, [], ◌∷◌, ◌++◌, ◌≢◌, ℕ, ◌-◌, ◌*◌, ◌≤◌, ◌<◌, eqb, take, drop}
+use Rattle.std.specs.Prelude.{◌≡◌, refl, Bool, List, [], ◌∷◌, ◌++◌, ◌≢◌, ℕ, ◌-◌, ◌*◌, ◌≤◌, ◌<◌, eqb, take, drop, ⊤, Result}
 use Rattle.std.proofs.Common.{sym, ap, ◌∙◌, subst, ⊎_elim, arith, length-append, take-append-drop, rules as by_rules, eq-eqb, ne_eqb}
 use Rattle.std.proofs.Math.Bool.{true, false}
 use Rattle.std.proofs.Math.ListN.{length, replicate}
@@ -79,7 +79,7 @@ settled_kept old r n = rw (ne_eqb r refused_flip n)
 
 -- ---- rules 7 to 10 and 23
 module _ (tri he hull table : List ℕ) (sites a : ℕ) (old : List ℕ) (c : Checkable tri he hull table old sites) where
-  module _ (mid : List ℕ) (f : MeshFault) (x : TopologyAnswer tri he hull sites old mid f) (k : ℕ) (is : k ≡ number_of f) where
+  module _ (mid : List ℕ) (f : Result ⊤ MeshFault) (x : TopologyAnswer tri he hull sites old mid f) (k : ℕ) (is : k ≡ number_of f) where
     pub judged_topology : k ≢ 0 → Judges tri he hull table sites a old mid k
     judged_topology n = record {
       number = rw is (finds_first (once refused_flip (Flippable tri he sites table a) ∷ []) (λ z. n (is ∙ z)) (finds_reads number_of x.verdict));

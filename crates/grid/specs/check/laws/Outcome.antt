@@ -1,6 +1,6 @@
 -- The whole check's answer with the work slice, and how it comes about: each rule is tried where those before it hold, and one that stands before
 -- rule 7 leaves the work slice alone.
-use Rattle.std.specs.Prelude.{◌≡◌, List, ◌≢◌, ℕ, ◌≤◌, ◌<◌, length}
+use Rattle.std.specs.Prelude.{◌≡◌, List, ◌≢◌, ℕ, ◌≤◌, ◌<◌, length, ⊤, Result}
 use Rattle.std.proofs.Math.Path.{refl, sym, ap}
 use Rattle.std.proofs.Common.{◌∙◌, arith, rules as by_rules, ne_eqb}
 use Rattle.base.specs.common.Pick.{pick}
@@ -28,7 +28,7 @@ pub record GridSettled (m : GridMesh) (old new : List ℕ) (a : GridAnswer) : Ty
   pub work : new ≡ grid_work m old (grid_number a)
 
 module _ (m : GridMesh) (old : List ℕ) where
-  abbrev rules : List (Rule MeshFault)
+  abbrev rules : List (Rule (Result ⊤ MeshFault))
   rules = topology_rules m.triangles m.halfedges m.hull (grid_sites m)
 
   abbrev judged : List (Rule GridAnswer)
@@ -48,7 +48,7 @@ module _ (m : GridMesh) (old : List ℕ) where
       unfolding grid_work
       by_grid l = record { found = keeps c (keeps room (offends g l)); work = refl }
 
-      module _ (inside : grid_sites m ≤ s) (new : List ℕ) (f : MeshFault)
+      module _ (inside : grid_sites m ≤ s) (new : List ℕ) (f : Result ⊤ MeshFault)
           (t : TopologyAnswer m.triangles m.halfedges m.hull (grid_sites m) old new f) (k : ℕ) (q : k ≡ number_of f) where
         -- no fault of the mesh has the number 22
         other : number_of f ≢ refused_grid

@@ -1,12 +1,11 @@
 -- Where triangles and pairs have a hull at all, the loop is one: so rule 9 on the loop decides.
-use Rattle.std.specs.Prelude.{◌≡◌, refl, List, ◌++◌, ◌≢◌, ℕ, ◌≤◌, ◌<◌, length, get_or, take}
+use Rattle.std.specs.Prelude.{◌≡◌, refl, List, ◌++◌, ◌≢◌, ℕ, ◌≤◌, ◌<◌, length, get_or, take, ⊤, Result, Ok}
 use Rattle.std.proofs.Common.{sym, ap, ◌∙◌, ⊎_elim, arith, rules}
 use Rattle.std.proofs.lemmas.List.Edits.{sets}
 use Rattle.base.specs.common.Refusals.{Keep, Finds}
 use Rattle.base.specs.common.laws.Refusals.{breaks, keeps, finds_one, finds_none, finds_answers, finds_split, finds_reads}
 use Rattle.base.specs.numbers.Numbers.{EMPTY, refused_hull}
 use Rattle.mesh.specs.declared.MeshFault.{MeshFault}
-use Rattle.mesh.specs.declared.MeshFault.TheVariants.{None}
 use Rattle.mesh.specs.Hull.{next_place, Hull}
 use Rattle.mesh.specs.Faults.{number_of, hull_rules, fan_rules}
 use Rattle.mesh.specs.laws.Border.{after_lt, places_hull, hull_places, hull_border}
@@ -45,10 +44,10 @@ module _ (tri he : List ℕ) (first sites : ℕ) (named : NamesSites tri sites) 
   pub decide_short : length (hull_of tri he first sites) < 3 → Finds (border_rules tri he sites) 0 refused_hull
   decide_short l = breaks (λ has. omega (arith, (hull_traced has).three))
 
-  module _ (three : 3 ≤ length (hull_of tri he first sites)) (f : MeshFault)
-      (x : Finds (hull_rules tri he (hull_of tri he first sites) sites ++ fan_rules tri he sites) None f) where
-    nine : Finds (hull_rules tri he (hull_of tri he first sites) sites) None f → f ≢ None → number_of f ≡ refused_hull
-    nine = finds_answers (λ f. f ≢ None → number_of f ≡ refused_hull) (λ n. absurd (n refl)) (search rules)
+  module _ (three : 3 ≤ length (hull_of tri he first sites)) (f : Result ⊤ MeshFault)
+      (x : Finds (hull_rules tri he (hull_of tri he first sites) sites ++ fan_rules tri he sites) (Ok tt) f) where
+    nine : Finds (hull_rules tri he (hull_of tri he first sites) sites) (Ok tt) f → f ≢ Ok tt → number_of f ≡ refused_hull
+    nine = finds_answers (λ f. f ≢ Ok tt → number_of f ≡ refused_hull) (λ n. absurd (n refl)) (search rules)
 
     pub decide_checked : Finds (border_rules tri he sites) 0 (number_of f)
     decide_checked =
@@ -72,7 +71,7 @@ module _ (tri he : List ℕ) (first sites : ℕ) (named : NamesSites tri sites) 
         let q : k ≡ length (hull_of tri he first sites) = rw z at count in
         record { found = decide_short (rw (← q) l); count = q; mended = rw z at mended; table = λ y. absurd (omega arith) }
 
-    pub traced_checked : 3 ≤ k → sites ≤ length m → (w₁ : List ℕ) → length w₁ ≡ length w → (f : MeshFault) → BorderAnswer tri he (take k m') sites w₁ w' f
+    pub traced_checked : 3 ≤ k → sites ≤ length m → (w₁ : List ℕ) → length w₁ ≡ length w → (f : Result ⊤ MeshFault) → BorderAnswer tri he (take k m') sites w₁ w' f
         → (r : ℕ) → r ≡ number_of f → TracedHull tri he first sites w w' m m' r k
     traced_checked l room w₁ long f a r p =
         let q : k ≡ length (hull_of tri he first sites) = rw z at count in

@@ -1,5 +1,5 @@
 -- The loops of rule 9: what each keeps from turn to turn, and how its answer comes out.
-use Rattle.std.specs.Prelude.{◌≡◌, refl, Bool, List, ◌≢◌, ℕ, ◌+◌, ◌≤◌, ◌<◌, length, get_or, set, replicate}
+use Rattle.std.specs.Prelude.{◌≡◌, refl, Bool, List, ◌≢◌, ℕ, ◌+◌, ◌≤◌, ◌<◌, length, get_or, set, replicate, ⊤, Result}
 use Rattle.std.proofs.Common.{ap, ◌∙◌, add-one, length-set, below_more}
 use Rattle.std.proofs.Math.Bool.{true, false}
 use Rattle.std.proofs.Math.Logic.{⊎_elim}
@@ -115,7 +115,7 @@ answers tri he hull sites w n r e u =
     (lt_or_ge r (length hull))
 
 -- the whole of rule 9: marks are the marks, work what is left of them
-pub checked : (tri he hull : List ℕ) (sites w n stray r : ℕ) (marks work : List ℕ) (f : MeshFault) → length he ≡ length tri → sites ≤ w
+pub checked : (tri he hull : List ℕ) (sites w n stray r : ℕ) (marks work : List ℕ) (f : Result ⊤ MeshFault) → length he ≡ length tri → sites ≤ w
     → length hull < EMPTY → ((k : ℕ) → k < length tri → get_or tri k 0 < w) → First (FreshAt hull sites) (length hull) n → marks ≡ marks_to hull w n
     → work ≡ left_to tri he hull marks (length tri) → First (λ e. TakesAt tri he hull (left_to tri he hull marks e) e) (length tri) stray
     → First (GoneAt hull work) n r → f ≡ hull_fault_of r (length hull) stray (length tri) → HullAnswer tri he hull sites f

@@ -1,12 +1,12 @@
 -- The marks that are left decide rule 9: the lowest place that kept its mark, and the lowest unpaired half-edge that took none off, are the
 -- lowest offenders.
-use Rattle.std.specs.Prelude.{◌≡◌, List, ◌≢◌, ℕ, ◌≤◌, ◌<◌, length, get_or}
+use Rattle.std.specs.Prelude.{◌≡◌, List, ◌≢◌, ℕ, ◌≤◌, ◌<◌, length, get_or, Ok, Err}
 use Rattle.std.proofs.Common.{sym, ap, ◌∙◌, ⊎_elim, arith}
 use Rattle.base.specs.common.laws.Decide.{lt_or_ge, eq_or_ne, first_all}
 use Rattle.base.specs.common.Decide.{First}
 use Rattle.mesh.specs.Mesh.{start_of}
 use Rattle.mesh.specs.Hull.{next_site, FreshAt, EdgeAt, PlaceAt, BorderAt}
-use Rattle.mesh.specs.declared.MeshFault.TheVariants.{None, HullPlace, HullEdge}
+use Rattle.mesh.specs.declared.MeshFault.TheVariants.{HullPlace, HullEdge}
 use Rattle.base.specs.common.laws.Refusals.{offends, all_keep, nothing}
 use Rattle.base.specs.numbers.Numbers.{EMPTY}
 use Rattle.mesh_check.specs.border.Answer.{HullAnswer}
@@ -85,11 +85,11 @@ module _ (tri he hull : List ℕ) (sites w n r e : ℕ) (u : Unmarked tri he hul
         at = λ h b. u.stray.at h (border_takes tri he hull sites w n u.fits u.small u.fresh.within u.fresh.before q e b);
       }
 
-  pub answer_place : r < length hull → HullAnswer tri he hull sites (HullPlace r)
+  pub answer_place : r < length hull → HullAnswer tri he hull sites (Err (HullPlace r))
   answer_place l = offends places l
 
-  pub answer_edge : length hull ≤ r → e < length he → HullAnswer tri he hull sites (HullEdge e)
+  pub answer_edge : length hull ≤ r → e < length he → HullAnswer tri he hull sites (Err (HullEdge e))
   answer_edge l h = all_keep (first_all places l) (offends (borders l) h)
 
-  pub answer_right : length hull ≤ r → length he ≤ e → HullAnswer tri he hull sites None
+  pub answer_right : length hull ≤ r → length he ≤ e → HullAnswer tri he hull sites (Ok tt)
   answer_right l h = all_keep (first_all places l) (all_keep (first_all (borders l) h) nothing)

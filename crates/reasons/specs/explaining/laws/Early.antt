@@ -1,5 +1,5 @@
 -- A refusal by the rules up to 10 with its place is the reason that the rules give, and the slices are as a build leaves them.
-use Rattle.std.specs.Prelude.{◌≡◌, refl, List, ◌++◌, ◌≢◌, ℕ, ◌≤◌, ◌<◌, length, replicate}
+use Rattle.std.specs.Prelude.{◌≡◌, refl, List, ◌++◌, ◌≢◌, ℕ, ◌≤◌, ◌<◌, length, replicate, ⊤, Result, Ok, Err}
 use Rattle.std.proofs.Common.{sym, ap, ◌∙◌, inl, inr, ⊎_elim, arith}
 use Rattle.std.proofs.lemmas.List.{length-replicate}
 use Rattle.base.specs.common.Refusals.{Rule, Keep, Judged, Finds, reads}
@@ -7,7 +7,7 @@ use Rattle.base.specs.common.laws.Decide.{lt_or_ge}
 use Rattle.base.specs.common.laws.Refusals.{breaks, keeps, finds_one, finds_answers, finds_first, finds_after, finds_split, finds_reads}
 use Rattle.base.specs.numbers.Numbers.{EMPTY, refused_coordinate, refused_triangle}
 use Rattle.mesh.specs.declared.MeshFault.{MeshFault}
-use Rattle.mesh.specs.declared.MeshFault.TheVariants.{None, Counts, Room, Coordinate, Triangle, Pairing, HullPlace, HullEdge, BrokenFan}
+use Rattle.mesh.specs.declared.MeshFault.TheVariants.{Counts, Room, Coordinate, Triangle, Pairing, HullPlace, HullEdge, BrokenFan}
 use Rattle.mesh.specs.Mesh.{leftmost_in}
 use Rattle.mesh.specs.Accepted.{Mesh, table_of, site_count}
 use Rattle.mesh.specs.Faults.{number_of, start_rules, coordinate_rules, topology_rules, mesh_rules}
@@ -31,26 +31,26 @@ use Rattle.reasons.specs.explaining.laws.Asked.{OwnRules}
 use Rattle.reasons.specs.explaining.laws.Placed.{keep_reads}
 
 -- the number of a fault of the mesh
-pub mesh_number : (f : MeshFault) → (told_by (of_mesh f)).number ≡ number_of f
-mesh_number None = refl
-mesh_number Counts = refl
-mesh_number Room = refl
-mesh_number (Coordinate s) = refl
-mesh_number (Triangle t) = refl
-mesh_number (Pairing e) = refl
-mesh_number (HullPlace i) = refl
-mesh_number (HullEdge e) = refl
-mesh_number (BrokenFan s) = refl
+pub mesh_number : (f : Result ⊤ MeshFault) → (told_by (of_mesh f)).number ≡ number_of f
+mesh_number (Ok _) = refl
+mesh_number (Err Counts) = refl
+mesh_number (Err Room) = refl
+mesh_number (Err (Coordinate s)) = refl
+mesh_number (Err (Triangle t)) = refl
+mesh_number (Err (Pairing e)) = refl
+mesh_number (Err (HullPlace i)) = refl
+mesh_number (Err (HullEdge e)) = refl
+mesh_number (Err (BrokenFan s)) = refl
 
 pub record Reasoned (m : Mesh) (room : Type 0) (own : List (Rule ℕ)) (n : ℕ) (r : Reason) : Type 0 where
   pub found : Finds (reason_rules m room own) NoFault r
   pub number : (told_by r).number ≡ n
 
 module _ (m : Mesh) (room : Type 0) (own : List (Rule ℕ)) (o : OwnRules own) where
-  abbrev start : List (Rule MeshFault)
+  abbrev start : List (Rule (Result ⊤ MeshFault))
   start = start_rules (length m.sites) (length m.triangles) (length m.halfedges) (length m.hull) room
 
-  abbrev late : List (Rule MeshFault)
+  abbrev late : List (Rule (Result ⊤ MeshFault))
   late = coordinate_rules m.sites ++ topology_rules m.triangles m.halfedges m.hull (site_count m.sites)
 
   -- from 6 on
@@ -94,10 +94,10 @@ module _ (m : Mesh) (room : Type 0) (own : List (Rule ℕ)) (o : OwnRules own) w
           number = mesh_number f ∙ finds_one (finds_reads number_of there) y;
         }
           where
-            there : Finds late None f
+            there : Finds late (Ok tt) f
             there = go a.finding.judged
               where
-                go : Judged (mesh_rules m (site_count m.sites ≤ length w)) None f → Finds late None f
+                go : Judged (mesh_rules m (site_count m.sites ≤ length w)) (Ok tt) f → Finds late (Ok tt) f
                 go (inl u) = absurd (u.0 k.0)
                 go (inr (c, inl u)) = absurd (u.0 (fits k.1.0))
                 go (inr (c, inr (q, u))) = record { judged = u }

@@ -1,9 +1,8 @@
 -- Rules that hold, read by g and put together; and the place that the check of a mesh names fits 32 bits: rule 1 holds then.
-use Rattle.std.specs.Prelude.{List, [], ◌∷◌, ◌++◌, ℕ, ◌≤◌, ◌<◌, length}
+use Rattle.std.specs.Prelude.{List, [], ◌∷◌, ◌++◌, ℕ, ◌≤◌, ◌<◌, length, ⊤, Result, Ok}
 use Rattle.std.proofs.Common.{inl, inr, arith}
 use Rattle.base.specs.common.Refusals.{Rule, once, each, Keep, Judged, reads}
 use Rattle.mesh.specs.declared.MeshFault.{MeshFault}
-use Rattle.mesh.specs.declared.MeshFault.TheVariants.{None}
 use Rattle.mesh.specs.Accepted.{Mesh, Counted, site_count}
 use Rattle.mesh.specs.Faults.{coordinate_rules, topology_rules, mesh_rules}
 use Rattle.mesh_check.specs.whole.Answers.{Finding, MeshAnswer}
@@ -32,14 +31,14 @@ judged_placed P (each f n Q ∷ rs) p t (inl x) = rw x.3 (t.0 x.0 x.2)
 judged_placed P (each f n Q ∷ rs) p t (inr x) = judged_placed P rs p t.1 x.1
 
 module _ (m : Mesh) (w : ℕ) where
-  abbrev Fits : MeshFault → Type 0
+  abbrev Fits : Result ⊤ MeshFault → Type 0
   Fits f = fault_place f < 4294967296
 
-  place_fits : (f : MeshFault) → Finding m w f → Fits f
+  place_fits : (f : Result ⊤ MeshFault) → Finding m w f → Fits f
   place_fits f x = go x.judged
     where
       late : Counted (length m.sites) (length m.triangles) (length m.halfedges) (length m.hull)
-          → Judged (coordinate_rules m.sites ++ topology_rules m.triangles m.halfedges m.hull (site_count m.sites)) None f → Fits f
+          → Judged (coordinate_rules m.sites ++ topology_rules m.triangles m.halfedges m.hull (site_count m.sites)) (Ok tt) f → Fits f
       late c y =
           judged_placed Fits (coordinate_rules m.sites ++ topology_rules m.triangles m.halfedges m.hull (site_count m.sites)) (omega arith) (
             λ k l. omega (arith, c.few_sites),
@@ -52,10 +51,10 @@ module _ (m : Mesh) (w : ℕ) where
             ),
           ) y
 
-      go : Judged (mesh_rules m (site_count m.sites ≤ w)) None f → Fits f
+      go : Judged (mesh_rules m (site_count m.sites ≤ w)) (Ok tt) f → Fits f
       go (inl y) = rw y.1 (omega arith)
       go (inr (c, inl y)) = rw y.1 (omega arith)
       go (inr (c, inr (r, y))) = late c y
 
-pub answer_fits : {m : Mesh} {old new : List ℕ} {f : MeshFault} → MeshAnswer m old new f → fault_place f < 4294967296
+pub answer_fits : {m : Mesh} {old new : List ℕ} {f : Result ⊤ MeshFault} → MeshAnswer m old new f → fault_place f < 4294967296
 answer_fits {m} {old} {f = f} a = place_fits m (length old) f a.finding
