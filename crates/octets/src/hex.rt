@@ -35,7 +35,7 @@ pub fn put_hex(out: &mut [u8], at: usize, bytes: &[u8]) -> usize
     end
 }
 
-// The last byte first: a number whose bytes stand the lowest first, as its digits are written.
+// The last byte first: a number whose bytes stand the lowest first, as its digits are written. Its own loop: one over any order, handed in, would be no plainer than these three lines.
 pub fn put_turned(out: &mut [u8], at: usize, bytes: &[u8]) -> usize
     requires { HasRoom out.old at (hex (reverse bytes.now)) }
     ensures { Wrote out.old out.new at result (hex (reverse bytes.now)) }

@@ -48,7 +48,7 @@ fn get_le(bytes: &[u8], at: usize, n: usize) -> u64
     x
 }
 
-// The highest first.
+// The highest first. Its own loop: with the order handed in, the one line that differs would not be plainer.
 fn get_be(bytes: &[u8], at: usize, n: usize) -> u64
     requires { (n ≤ 8) × (at + n ≤ length bytes.now) }
     ensures value { result ≡ word (reverse (take n (drop at bytes.now))) }
