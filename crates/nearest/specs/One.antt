@@ -9,8 +9,7 @@ use Rattle.grid.specs.check.Promise.{GridMesh}
 use Rattle.grid.specs.nearest.Judged.{nearest_number, nearest_kind, nearest_place}
 use Rattle.grid.specs.nearest.Promise.{nearest_rules}
 use Rattle.printing.specs.One.{of_form_one}
-use Rattle.nearest.specs.declared.line.NearestLine.{NearestLine}
-use Rattle.nearest.specs.line.NearestLine.{nearest_line}
+use Rattle.nearest.specs.line.NearestLine.{NearestLine, nearest_line}
 use Rattle.nearest.specs.corners.Tried.{off_corner}
 use Rattle.nearest.specs.Printed.{with_box, answer_line, NearestTold, grid_of, ToldOfMesh, NearestPrints}
 

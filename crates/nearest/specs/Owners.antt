@@ -1,6 +1,6 @@
 -- Theorem: where `nearest` prints `nearest`, each gauge of the form is in use, its box keeps rule 3, and in the build of the same form, in that box, the owner of each
 -- corner is a gauge of least distance to it over all gauges, in whole numbers and as computed. So the line `corners` that `cells` prints for it names nearest gauges.
-use Rattle.std.specs.Prelude.{◌≡◌, ℕ, ◌+◌, ◌*◌, ◌/◌, ◌<◌, ◌≤◌, Bool, true, false, ◌≢◌, List, length, ◌==◌, slice_index, slice_index_or, refl}
+use Rattle.std.specs.Prelude.{◌≡◌, ℕ, ◌+◌, ◌*◌, ◌/◌, ◌<◌, ◌≤◌, Bool, true, false, ◌≢◌, List, length, ◌==◌, slice_index, slice_index_or, refl, Ok, Err}
 use Rattle.std.proofs.Common.{sym, ◌∙◌, arith, eqb-true}
 use Rattle.std.proofs.Math.Path.{ap, subst}
 use Rattle.std.proofs.lemmas.Bool.{eqb-false}
@@ -32,9 +32,8 @@ use Rattle.form.specs.Form.{FormMesh, form_of}
 use Rattle.form.specs.mesh.Read.{BoxOf}
 use Rattle.printing.specs.OfForm.{mesh_of, sound, broken}
 use Rattle.printing.specs.parts.Text.{ascii}
-use Rattle.nearest.specs.declared.line.NearestLine.{NearestLine}
-use Rattle.nearest.specs.declared.line.NearestLine.TheVariants.{Nearest, Triangle, Halfedge, HullPlace, Unused, Corner, OffGrid, Refused}
-use Rattle.nearest.specs.line.NearestLine.{number_line, corner_line, nearest_line}
+use Rattle.nearest.specs.declared.line.Offence.TheVariants.{Triangle, Halfedge, HullPlace, Unused, Corner, OffGrid, Refused}
+use Rattle.nearest.specs.line.NearestLine.{NearestLine, number_line, corner_line, nearest_line}
 use Rattle.nearest.specs.whole_sites.Whole.{whole_number, wholes_of}
 use Rattle.nearest.specs.whole_sites.Value.{sites_whole, coordinate_kept}
 use Rattle.nearest.specs.corners.Tried.{off_corner}
@@ -68,39 +67,39 @@ abbrev yes : List ℕ
 yes = ascii "nearest\n"
 
 -- no other line has its text
-alone : (l : NearestLine) → yes ≡ nearest_line l → l ≡ Nearest
+alone : (l : NearestLine) → yes ≡ nearest_line l → l ≡ Ok tt
 unfolding number_line corner_line
-alone Nearest e = refl
-alone (Triangle t) e = absurd (omega (arith, ap (byte 0) e))
-alone (Halfedge t) e = absurd (omega (arith, ap (byte 0) e))
-alone (HullPlace t) e = absurd (omega (arith, ap (byte 0) e))
-alone (Unused t) e = absurd (omega (arith, ap (byte 0) e))
-alone (Corner t) e = absurd (omega (arith, ap (byte 0) e))
-alone (OffGrid t) e = absurd (omega (arith, ap (byte 1) e))
-alone (Refused t) e = absurd (omega (arith, ap (byte 0) e))
+alone (Ok _) e = refl
+alone (Err (Triangle t)) e = absurd (omega (arith, ap (byte 0) e))
+alone (Err (Halfedge t)) e = absurd (omega (arith, ap (byte 0) e))
+alone (Err (HullPlace t)) e = absurd (omega (arith, ap (byte 0) e))
+alone (Err (Unused t)) e = absurd (omega (arith, ap (byte 0) e))
+alone (Err (Corner t)) e = absurd (omega (arith, ap (byte 0) e))
+alone (Err (OffGrid t)) e = absurd (omega (arith, ap (byte 1) e))
+alone (Err (Refused t)) e = absurd (omega (arith, ap (byte 0) e))
 
 -- a number for each line, to tell them apart
 abbrev told_by_lem : NearestLine → ℕ
-told_by_lem Nearest = 1
-told_by_lem (Triangle t) = 0
-told_by_lem (Halfedge e) = 0
-told_by_lem (HullPlace i) = 0
-told_by_lem (Unused s) = 0
-told_by_lem (Corner c) = 0
-told_by_lem (OffGrid s) = 0
-told_by_lem (Refused n) = 0
+told_by_lem (Ok _) = 1
+told_by_lem (Err (Triangle t)) = 0
+told_by_lem (Err (Halfedge e)) = 0
+told_by_lem (Err (HullPlace i)) = 0
+told_by_lem (Err (Unused s)) = 0
+told_by_lem (Err (Corner c)) = 0
+told_by_lem (Err (OffGrid s)) = 0
+told_by_lem (Err (Refused n)) = 0
 
-other : {l : NearestLine} → told_by_lem l ≡ 0 → l ≢ Nearest
+other : {l : NearestLine} → told_by_lem l ≡ 0 → l ≢ Ok tt
 other z e = absurd (omega (arith, z, ap told_by_lem e))
 
 -- the numbers behind the line
-kind_says : (kind place unused corner : ℕ) → kind_line kind place unused corner ≡ Nearest → (kind ≢ 1) × (kind ≢ 2) × (kind ≢ 3) × (unused ≡ EMPTY) × (corner ≡ 4)
+kind_says : (kind place unused corner : ℕ) → kind_line kind place unused corner ≡ Ok tt → (kind ≢ 1) × (kind ≢ 2) × (kind ≢ 3) × (unused ≡ EMPTY) × (corner ≡ 4)
 unfolding kind_line
 kind_says kind place unused corner h = go (kind == 1) refl (kind == 2) refl (kind == 3) refl (unused == EMPTY) refl (corner == 4) refl h
   where
     go : (a : Bool) → (kind == 1) ≡ a → (b : Bool) → (kind == 2) ≡ b → (c : Bool) → (kind == 3) ≡ c → (d : Bool) → (unused == EMPTY) ≡ d → (e : Bool) → (corner == 4) ≡ e
-        → pick a (λ _. Triangle place) (λ _. pick b (λ _. Halfedge place) (λ _. pick c (λ _. HullPlace place)
-        (λ _. pick d (λ _. pick e (λ _. Nearest) (λ _. Corner corner)) (λ _. Unused unused)))) ≡ Nearest
+        → ◌≡◌ {A = NearestLine} (pick a (λ _. Err (Triangle place)) (λ _. pick b (λ _. Err (Halfedge place)) (λ _. pick c (λ _. Err (HullPlace place))
+        (λ _. pick d (λ _. pick e (λ _. Ok tt) (λ _. Err (Corner corner))) (λ _. Err (Unused unused)))))) (Ok tt)
         → (kind ≢ 1) × (kind ≢ 2) × (kind ≢ 3) × (unused ≡ EMPTY) × (corner ≡ 4)
     go true p b q c r d s e t h = absurd (other refl h)
     go false p true q c r d s e t h = absurd (other refl h)
@@ -109,12 +108,12 @@ kind_says kind place unused corner h = go (kind == 1) refl (kind == 2) refl (kin
     go false p false q false r true s false t h = absurd (other refl h)
     go false p false q false r true s true t h = (eqb-false kind 1 p, eqb-false kind 2 q, eqb-false kind 3 r, eqb-true unused EMPTY s, eqb-true corner 4 t)
 
-answer_says : (number kind place unused corner beyond : ℕ) → answer_line number kind place unused corner beyond ≡ Nearest → (number ≡ 0) × (kind_line kind place unused corner ≡ Nearest)
+answer_says : (number kind place unused corner beyond : ℕ) → answer_line number kind place unused corner beyond ≡ Ok tt → (number ≡ 0) × (kind_line kind place unused corner ≡ Ok tt)
 unfolding answer_line
 answer_says number kind place unused corner beyond h = go (number == refused_grid) (number == 0) refl h
   where
-    go : (a b : Bool) → (number == 0) ≡ b → pick a (λ _. OffGrid beyond) (λ _. pick b (λ _. kind_line kind place unused corner) (λ _. Refused number)) ≡ Nearest
-        → (number ≡ 0) × (kind_line kind place unused corner ≡ Nearest)
+    go : (a b : Bool) → (number == 0) ≡ b → ◌≡◌ {A = NearestLine} (pick a (λ _. Err (OffGrid beyond)) (λ _. pick b (λ _. kind_line kind place unused corner) (λ _. Err (Refused number)))) (Ok tt)
+        → (number ≡ 0) × (kind_line kind place unused corner ≡ Ok tt)
     go true b q h = absurd (other refl h)
     go false true q h = (eqb-true number 0 q, h)
     go false false q h = absurd (other refl h)
@@ -160,8 +159,8 @@ kind_yes {m} {old} {kind = kind} x z p q r =
     )
 
 -- ---- the mesh
-module _ (m : Mesh) (g : Given) (x : NearestTold g (grid_of m) Nearest) where
-  says : (with_box g.sound x.number ≡ 0) × (kind_line x.kind x.place x.unused (off_corner g.bounds) ≡ Nearest)
+module _ (m : Mesh) (g : Given) (x : NearestTold g (grid_of m) (Ok tt)) where
+  says : (with_box g.sound x.number ≡ 0) × (kind_line x.kind x.place x.unused (off_corner g.bounds) ≡ Ok tt)
   says = answer_says _ _ _ _ _ _ (sym x.line)
 
   in_box_lem : (g.sound ≡ true) × (x.number ≡ 0)
@@ -216,7 +215,7 @@ module _ (m : Mesh) (g : Given) (x : NearestTold g (grid_of m) Nearest) where
       }
 
 -- ---- the form
-by_line : {s : List ℕ} {l : NearestLine} → FormLine s l → l ≡ Nearest → FormNearest s
+by_line : {s : List ℕ} {l : NearestLine} → FormLine s l → l ≡ Ok tt → FormNearest s
 by_line (sound m g f e b x) q = record { mesh = m; bytes = e; given = g; box_of = b; nearest = owners_nearest (mesh_of m) g (subst (ToldOfMesh (mesh_of m) g) q x) }
 by_line (broken p n) q = absurd (other refl q)
 

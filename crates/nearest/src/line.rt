@@ -5,11 +5,10 @@ ghost use Rattle.nearest.specs.line.NearestLine.{number_line, corner_line, neare
 use octets::put;
 use printing::parts::labelled;
 
-// Every walk ends at a nearest site; or what offends; or a site that no walk reaches; or the lowest corner of the box that is no admitted destination; or the lowest
-// site that is not on the grid; or a refusal.
-#[derive(Clone, Copy)]
-pub enum NearestLine {
-    Nearest,
+// Why it is not said that every walk ends at a nearest site: what offends; or a site that no walk reaches; or the lowest corner of the box that is no admitted
+// destination; or the lowest site that is not on the grid; or a refusal's number, as the reader and the check tell it.
+#[derive(Clone, Copy, Debug, PartialEq, Eq)]
+pub enum Offence {
     Triangle(u32),
     Halfedge(u32),
     HullPlace(u32),
@@ -37,18 +36,18 @@ fn corner_line(out: &mut [u8], c: u32) -> usize
     put(out, end, b" is not admitted\n")
 }
 
-pub fn nearest_line(out: &mut [u8], l: NearestLine) -> usize
-    requires { HasRoom out.old 0 (nearest_line l) }
-    ensures { Wrote out.old out.new 0 result (nearest_line l) }
+pub fn nearest_line(out: &mut [u8], answer: Result<(), Offence>) -> usize
+    requires { HasRoom out.old 0 (nearest_line answer) }
+    ensures { Wrote out.old out.new 0 result (nearest_line answer) }
 {
-    match l {
-        NearestLine::Nearest => put(out, 0, b"nearest\n"),
-        NearestLine::Triangle(t) => number_line(out, b"triangle", t),
-        NearestLine::Halfedge(e) => number_line(out, b"half-edge", e),
-        NearestLine::HullPlace(i) => number_line(out, b"hull place", i),
-        NearestLine::Unused(s) => number_line(out, b"unused", s),
-        NearestLine::Corner(c) => corner_line(out, c),
-        NearestLine::OffGrid(s) => number_line(out, b"not on the grid: site", s),
-        NearestLine::Refused(n) => number_line(out, b"refused", n),
+    match answer {
+        Ok(()) => put(out, 0, b"nearest\n"),
+        Err(Offence::Triangle(t)) => number_line(out, b"triangle", t),
+        Err(Offence::Halfedge(e)) => number_line(out, b"half-edge", e),
+        Err(Offence::HullPlace(i)) => number_line(out, b"hull place", i),
+        Err(Offence::Unused(s)) => number_line(out, b"unused", s),
+        Err(Offence::Corner(c)) => corner_line(out, c),
+        Err(Offence::OffGrid(s)) => number_line(out, b"not on the grid: site", s),
+        Err(Offence::Refused(n)) => number_line(out, b"refused", n),
     }
 }

@@ -11,7 +11,7 @@ ghost use Rattle.grid.specs.check.Promise.{grid_mesh};
 ghost use Rattle.nearest.specs.whole_sites.Whole.{wholes_of};
 ghost use Rattle.nearest.specs.Printed.{kind_line, with_box, answer_line, NearestTold, FormLine, NearestPrints};
 
-use crate::line::NearestLine;
+use crate::line::Offence;
 use base::numbers::EMPTY;
 use form::{COORDINATES, HULL, LINKS};
 use grid::nearest::check_nearest_lent;
@@ -19,25 +19,25 @@ use plane::given::Given;
 use std::io;
 
 // The line where nothing is refused.
-fn kind_line(kind: u32, place: u32, unused: u32, corner: u32) -> NearestLine
+fn kind_line(kind: u32, place: u32, unused: u32, corner: u32) -> Result<(), Offence>
     ensures { result ≡ kind_line kind place unused corner }
 {
     if kind == 1 {
-        return NearestLine::Triangle(place);
+        return Err(Offence::Triangle(place));
     }
     if kind == 2 {
-        return NearestLine::Halfedge(place);
+        return Err(Offence::Halfedge(place));
     }
     if kind == 3 {
-        return NearestLine::HullPlace(place);
+        return Err(Offence::HullPlace(place));
     }
     if unused != EMPTY {
-        return NearestLine::Unused(unused);
+        return Err(Offence::Unused(unused));
     }
     if corner != 4 {
-        return NearestLine::Corner(corner);
+        return Err(Offence::Corner(corner));
     }
-    NearestLine::Nearest
+    Ok(())
 }
 
 // Rule 3 stands behind rule 1, and before all others: rule 2 is kept.
@@ -60,15 +60,15 @@ fn line_of(
     unused: u32,
     corner: u32,
     beyond: usize,
-) -> NearestLine
+) -> Result<(), Offence>
     requires { beyond ≤ most_sites }
     ensures { result ≡ answer_line number kind place unused corner beyond }
 {
     if number == base::numbers::REFUSED_GRID {
-        return NearestLine::OffGrid(beyond as u32);
+        return Err(Offence::OffGrid(beyond as u32));
     }
     if number != 0 {
-        return NearestLine::Refused(number);
+        return Err(Offence::Refused(number));
     }
     kind_line(kind, place, unused, corner)
 }
@@ -80,7 +80,7 @@ fn of_grid(
     triangles: &[u32],
     halfedges: &[u32],
     hull: &[u32],
-) -> NearestLine
+) -> Result<(), Offence>
     requires { length grid.now ≤ most_coordinates }
     ensures { NearestTold given (grid_mesh grid.now triangles.now halfedges.now hull.now) result }
 {
@@ -111,7 +111,7 @@ fn of_mesh(
     triangles: &[u32],
     halfedges: &[u32],
     hull: &[u32],
-) -> NearestLine
+) -> Result<(), Offence>
     requires { length sites.now ≤ most_coordinates }
     ensures { NearestTold given (grid_mesh (wholes_of sites.now) triangles.now halfedges.now hull.now) result }
 {
@@ -122,7 +122,7 @@ fn of_mesh(
 }
 
 // The line for a form's bytes.
-fn of_form(bytes: &[u8]) -> NearestLine
+fn of_form(bytes: &[u8]) -> Result<(), Offence>
     ensures { FormLine bytes.now result }
 {
     let mut sites = [0.0f64; COORDINATES];
@@ -138,7 +138,7 @@ fn of_form(bytes: &[u8]) -> NearestLine
         &mut hull,
     );
     if read.number != 0 {
-        return NearestLine::Refused(read.number);
+        return Err(Offence::Refused(read.number));
     }
     let given = read.given;
     let n = read.coordinates;

@@ -2,6 +2,8 @@
 ghost use Rattle.flipping.specs.call.Flips.{flip_lists};
 ghost use Rattle.voronoi.specs.Flips.{Flip};
 
+use base::refusal::number;
+
 // Refused, triangles, half-edges and table are unchanged; the work slice is unchanged after 1 and 2 and `EMPTY` throughout after 7 to 10 and 23.
 pub fn voronoi_flip(
     site_count: u32,
@@ -16,7 +18,7 @@ pub fn voronoi_flip(
         (flip_lists triangles.old halfedges.old table.old work.old)
         (flip_lists triangles.new halfedges.new table.new work.new) result }
 {
-    flipping::call::flip(
+    number(flipping::call::flip(
         site_count, triangles, halfedges, hull, table, work, halfedge,
-    )
+    ))
 }

@@ -2,6 +2,8 @@
 ghost use Rattle.grid.specs.check.Promise.{grid_mesh};
 ghost use Rattle.voronoi.specs.Grids.{GridCheck, GridNearest, SitesOfGrid};
 
+use base::refusal::number;
+
 // After 1, 2 and 22 the work slice is as it was, after 7 to 10 `EMPTY` throughout, after 0 it has the leftmost table, then `EMPTY`. The two numbers are
 // always written, `EMPTY` when refused.
 pub fn voronoi_grid_check(
@@ -40,5 +42,5 @@ pub fn voronoi_grid_nearest(
 pub fn voronoi_grid_sites(grid: &[i32], sites: &mut [f64]) -> u32
     ensures { SitesOfGrid grid.now sites.old sites.new result }
 {
-    grid::floats::grid_sites(grid, sites)
+    number(grid::floats::grid_sites(grid, sites))
 }

@@ -1,5 +1,5 @@
 -- What the promises of these calls say where the number is not 0.
-use Rattle.std.specs.Prelude.{◌≡◌, refl, false, List, [], ◌≢◌, ℕ, ◌≤◌, ◌<◌, eqb, Float, length, get_or, replicate}
+use Rattle.std.specs.Prelude.{◌≡◌, refl, false, List, [], ◌≢◌, ℕ, ◌≤◌, ◌<◌, eqb, Float, length, get_or, replicate, Ok, Err}
 use Rattle.std.proofs.Common.{sym, ap, ◌∙◌, subst, ⊎_elim}
 use borrow.Author.Tests.{eq-eqb, ne_eqb, lt-ltb, le-ltb}
 use Rattle.base.specs.common.Binary64 as R
@@ -19,13 +19,11 @@ use Rattle.octets.specs.Wrote.{Wrote}
 use Rattle.admission.specs.Slices.{Slices}
 use Rattle.mending.specs.slices.Lent.{Lent}
 use Rattle.mending.specs.Mending.{when_made}
-use Rattle.grid.specs.declared.scan.GridAnswer.{GridAnswer}
-use Rattle.grid.specs.declared.scan.GridAnswer.TheVariants as grid
-use Rattle.grid.specs.scan.Judged.{grid_number, grid_kind, grid_place}
+use Rattle.grid.specs.declared.scan.GridFault.TheVariants as grid
+use Rattle.grid.specs.scan.Judged.{GridAnswer, grid_number, grid_kind, grid_place}
 use Rattle.grid.specs.check.Promise.{GridMesh, grid_work}
-use Rattle.grid.specs.declared.nearest.NearestAnswer.{NearestAnswer}
-use Rattle.grid.specs.declared.nearest.NearestAnswer.TheVariants.{Nearest, Triangle, Halfedge, HullPlace, Refused}
-use Rattle.grid.specs.nearest.Judged.{nearest_number, nearest_kind, nearest_place}
+use Rattle.grid.specs.declared.nearest.NearestFault.TheVariants.{Grid, Hull}
+use Rattle.grid.specs.nearest.Judged.{NearestAnswer, nearest_number, nearest_kind, nearest_place}
 use Rattle.areas.specs.Promise.{areas_after}
 use Rattle.auditing.specs.Promise.{unless_refused, share_unless_refused}
 use Rattle.reasons.specs.declared.ReasonNumbers.{ReasonNumbers}
@@ -108,17 +106,15 @@ module _ (m : GridMesh) (old : List ℕ) (r : ℕ) where
   }
 
 grid_silent : (a : GridAnswer) → grid_number a ≢ 0 → (grid_kind a ≡ EMPTY) × (grid_place a ≡ EMPTY)
-grid_silent grid.Good n = absurd (n refl)
-grid_silent (grid.Triangle t) n = absurd (n refl)
-grid_silent (grid.Halfedge e) n = absurd (n refl)
-grid_silent (grid.Refused k) n = (refl, refl)
+grid_silent (Ok _) n = absurd (n refl)
+grid_silent (Err (grid.Triangle t)) n = absurd (n refl)
+grid_silent (Err (grid.Halfedge e)) n = absurd (n refl)
+grid_silent (Err (grid.Refused k)) n = (refl, refl)
 
 nearest_silent : (a : NearestAnswer) → nearest_number a ≢ 0 → (nearest_kind a ≡ EMPTY) × (nearest_place a ≡ EMPTY)
-nearest_silent Nearest n = absurd (n refl)
-nearest_silent (Triangle t) n = absurd (n refl)
-nearest_silent (Halfedge e) n = absurd (n refl)
-nearest_silent (HullPlace i) n = absurd (n refl)
-nearest_silent (Refused k) n = (refl, refl)
+nearest_silent (Ok _) n = absurd (n refl)
+nearest_silent (Err (Grid f)) n = grid_silent (Err f) n
+nearest_silent (Err (Hull f)) n = absurd (n refl)
 
 pub check_refused : (g : GridMesh) {w w' : List ℕ} {r k p : ℕ} → GridCheck g w w' r k p → r ≢ 0 → GridRefused w w' r k p
 check_refused g {w} {r = r} x n =
