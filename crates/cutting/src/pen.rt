@@ -10,7 +10,7 @@ use plane::points::Point;
 
 // The first place of a ring that is being written, and the last so far.
 #[derive(Clone, Copy)]
-pub struct Ends {
+pub struct RingEnds {
     pub first: Point,
     pub last: Point,
 }
@@ -20,7 +20,7 @@ pub struct Ends {
 pub struct Pen {
     pub at: usize,
     pub count: usize,
-    pub ends: Option<Ends>,
+    pub ends: Option<RingEnds>,
 }
 
 pub fn same_place(p: Point, q: Point) -> bool
@@ -99,15 +99,15 @@ fn repeats_last(pen: Pen, p: Point) -> bool
 }
 
 // The ends with p for the last place.
-fn ends_with(ends: Option<Ends>, p: Point) -> Ends
+fn ends_with(ends: Option<RingEnds>, p: Point) -> RingEnds
     ensures { result ≡ ends_with ends p }
 {
     match ends {
-        Some(e) => Ends {
+        Some(e) => RingEnds {
             first: e.first,
             last: p,
         },
-        None => Ends { first: p, last: p },
+        None => RingEnds { first: p, last: p },
     }
 }
 

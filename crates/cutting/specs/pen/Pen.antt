@@ -5,7 +5,7 @@ use Rattle.base.specs.common.Pick.{pick}
 use Rattle.base.specs.numbers.Numbers.{EMPTY}
 use Rattle.plane.specs.declared.points.Point.{Point}
 use Rattle.plane.specs.declared.boxes.BoundingBox.{BoundingBox}
-use Rattle.cutting.specs.declared.pen.Ends.{Ends}
+use Rattle.cutting.specs.declared.pen.RingEnds.{RingEnds}
 use Rattle.cutting.specs.declared.pen.Pen.{Pen}
 
 abbrev pub same_place : Point → Point → Bool
@@ -31,15 +31,15 @@ unfoldable pub added_vertex : ℕ → ℕ → Point → List Float → List Floa
 added_vertex n count p v = pick (eqb n count) (λ _. set (set v (2 * n) p.x) (2 * n + 1) p.y) (λ _. v)
 
 -- whether p is the last place again
-abbrev pub ends_at : Option Ends → Point → Bool
-ends_at None p = false
-ends_at (Some e) p = same_place e.last p
+abbrev pub repeats_in : Option RingEnds → Point → Bool
+repeats_in None p = false
+repeats_in (Some e) p = same_place e.last p
 
 unfoldable pub repeats : Pen → Point → Bool
-repeats pen p = ends_at pen.ends p
+repeats pen p = repeats_in pen.ends p
 
 -- the ends with p for the last place
-abbrev pub ends_with : Option Ends → Point → Ends
+abbrev pub ends_with : Option RingEnds → Point → RingEnds
 ends_with None p = record { first = p; last = p }
 ends_with (Some e) p = record { first = e.first; last = p }
 

@@ -1,13 +1,13 @@
 -- The end of a piece that was written from a place of the index list on.
 use Rattle.std.specs.Prelude.{Bool, false, Option, Some, None, ℕ, ◌-◌, ltb}
 use Rattle.base.specs.common.Pick.{pick}
-use Rattle.cutting.specs.declared.pen.Ends.{Ends}
+use Rattle.cutting.specs.declared.pen.RingEnds.{RingEnds}
 use Rattle.cutting.specs.declared.pen.Pen.{Pen}
 use Rattle.cutting.specs.pen.Pen.{same_place, Page, page}
 use Rattle.cutting_writer.specs.turn.Turned.{turned_round}
 
 -- whether the last place is the first again
-abbrev pub closes : Option Ends → Bool
+abbrev pub closes : Option RingEnds → Bool
 closes None = false
 closes (Some e) = same_place e.first e.last
 

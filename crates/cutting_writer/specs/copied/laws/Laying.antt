@@ -1,4 +1,4 @@
--- The entries of a stage laid into a list one by one, and the same turned round as they are put there the other way round (`putting_step`, `putting_end`).
+-- The entries of a stage laid into a list one by one, and the same turned round as they are put there the other way round (`putting_end`).
 use Rattle.std.specs.Prelude.{◌≡◌, false, None, List, ltb, length, set}
 use Rattle.std.proofs.Math.Path.{refl, ap}
 use Rattle.std.proofs.Common.{sym, ◌∙◌, arith, le-ltb, length-set, ext_get_or}
@@ -68,20 +68,6 @@ module _ (stage : List ℕ) (at : ℕ) (ix : List ℕ) where
     pub after : (k : ℕ) → at + i ≤ k → get_or m k 0 ≡ get_or ix k 0
 
   module _ (n i : ℕ) (m : List ℕ) (x : PuttingBack n i m) (room : at + n ≤ length ix) where
-    pub putting_step : i < n → PuttingBack n (i + 1) (set m (at + i) (get_or stage (n - 1 - i) 0))
-    putting_step more = record {
-      some = omega arith;
-      long = length-set m (at + i) (get_or stage (n - 1 - i) 0) ∙ x.long;
-      put = λ k h. ⊎_elim
-          (λ z. ap (λ (j : ℕ). get_or (set m (at + i) (get_or stage (n - 1 - i) 0)) (at + j) 0) z
-          ∙ get_or-set_same m (at + i) (get_or stage (n - 1 - i) 0) 0 (omega (arith, x.long))
-          ∙ ap (λ (j : ℕ). get_or stage (n - 1 - j) 0) (sym z))
-          (λ z. get_or-set_other m (at + i) (at + k) (get_or stage (n - 1 - i) 0) 0 (λ y. z (omega arith)) ∙ x.put k (omega (arith, z)))
-          (eq_or_ne k i);
-      before = λ k h. get_or-set_other m (at + i) k (get_or stage (n - 1 - i) 0) 0 (λ z. omega arith) ∙ x.before k h;
-      after = λ k h. get_or-set_other m (at + i) k (get_or stage (n - 1 - i) 0) 0 (λ z. omega arith) ∙ x.after k (omega arith);
-    }
-
     pub putting_end : n ≤ i → m ≡ turned_round at (at + n) (laid_to stage at n ix)
     putting_end over = ext_get_or 0 m (turned_round at (at + n) (laid_to stage at n ix)) (x.long ∙ sym (turned_length at (at + n) (laid_to stage at n ix) 0 low high ∙
         laid_long stage at n ix)) (λ k p. ⊎_elim

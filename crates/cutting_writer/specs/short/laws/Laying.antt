@@ -20,9 +20,6 @@ module _ (k : ℕ) {f : List Spot} where
   pub laid_none : {part : Ring} → part ≡ [] → LaidOn part k f k f
   laid_none q = record { fits = λ h. h; made = λ h. sym (append-nil (ring_in f 0 k)) ∙ ap (λ (l : Ring). ring_in f 0 k ++ l) (sym q) }
 
-  pub laid_long : {part : Ring} {f₁ : List Spot} → LaidOn part k f 17 f₁
-  laid_long = record { fits = λ h. absurd (omega arith); made = λ h. absurd (omega arith) }
-
   pub laid_put : {v : At Corner Carrier} {f₁ : List Spot} → k < 16 → PutSlot f k v f₁ → LaidOn (v ∷ []) k f (k + 1) f₁
   laid_put {v} {f₁} low p =
       let s : k + 1 ≡ suc k = omega arith in

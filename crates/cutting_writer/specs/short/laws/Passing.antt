@@ -1,9 +1,9 @@
--- One side over a ring in slots: what is left of each edge goes on in the other half (`edge_none`, `edge_one`, `edge_two`), and at the end that is the ring by the side (`passing_end`).
+-- One side over a ring in slots: what is left of each edge goes on in the other half (`edge_one`, `edge_two`), and at the end that is the ring by the side (`passing_end`).
 -- The sides one after the other (`cut_all_lem`).
 use Rattle.std.specs.Prelude.{◌≡◌, refl, true, List, [], ◌∷◌, ◌++◌, Float, length}
 use Rattle.std.proofs.lemmas.List.FromFn.{length-range_with_len, get_or-range_with_len}
 use Rattle.std.specs.List.{AllWithin, range_with_len}
-use Rattle.std.proofs.Common.{subst, sym, ap, ◌∙◌, append-nil, append_assoc, inl, inr, add-zero, lt-ltb, le-ltb}
+use Rattle.std.proofs.Common.{subst, sym, ap, ◌∙◌, append-nil, append_assoc, add-zero, lt-ltb, le-ltb}
 use Rattle.std.proofs.Math.Logic.{⊎_elim}
 use Prim.Native.Nat.{ℕ, zero, suc, ◌+◌, ◌-◌, ◌≤◌, ◌<◌}
 use native.Mathlib.Omega.{arith}
@@ -29,9 +29,6 @@ out_of : (to j n : ℕ) → n < 16 → (to ≤ j → j < to + 16 → ⊥) → j 
 out_of to j n h out e = out (omega arith) (omega arith)
 
 module _ {part : Ring} (to k : ℕ) {f : List Spot} where
-  pub edge_none : part ≡ [] → Edged part to k f k f
-  edge_none q = record { made = sym (append-nil (ring_in f to k)) ∙ ap (λ (l : Ring). ring_in f to k ++ l) (sym q); others = λ j n. refl; most = omega arith }
-
   module _ (room : k + 2 ≤ 16) {v : At Corner Carrier} {f₁ : List Spot} (p : PutSlot f (to + k) v f₁) where
     pub edge_one : part ≡ v ∷ [] → Edged part to k f (k + 1) f₁
     edge_one q = record {
@@ -155,15 +152,8 @@ module _ (b : BoundingBox) (s : SideName) (from count : ℕ) (f : List Spot) whe
 
 -- ---- a side that leaves the ring alone, and one that does not
 module _ (s : Side Corner Carrier) (l : Lying) (half : AtHalf l.from) (f : List Spot) where
-  pub cut_long : 16 < l.count → Cuts (cut_by s) l f l f
-  cut_long n = record { half = half; fits = λ h. h; made = λ h. absurd (omega arith) }
-
   pub cut_none : AllCorners (IsWithin s) (laid f l) → Cuts (cut_by s) l f l f
   cut_none a = record { half = half; fits = λ h. h; made = λ h. sym (cut_untouched s (laid f l) a) }
-
-  pub cut_passed : (k : ℕ) (f₁ : List Spot) → l.count ≤ 16 → PassedSide s l.from l.count f k f₁
-      → Cuts (cut_by s) l f (record { from = 16 - l.from; count = k }) f₁
-  cut_passed k f₁ few p = record { half = ⊎_elim (λ e. inr (omega arith)) (λ e. inl (omega arith)) half; fits = λ h. few; made = p.made }
 
 pub cuts_then : {g h : Ring → Ring} {l r u : Lying} {f f₁ f₂ : List Spot} → Cuts g l f r f₁ → Cuts h r f₁ u f₂ → Cuts (λ ring. h (g ring)) l f u f₂
 cuts_then {g} {h} x y = record { half = y.half; fits = λ n. x.fits (y.fits n); made = λ n. y.made n ∙ ap h (x.made (y.fits n)) }
