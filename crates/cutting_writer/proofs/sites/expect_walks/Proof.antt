@@ -34,4 +34,4 @@ returns c = c.loop-i.invariant ∙ c.offsets-1.given
 pub expect_walks_spec : {M : Type 1} → statement M
 expect_walks_spec =
     tie.close
-    (tie.spec invariant-loop decreases-loop (λ c κs. omega arith) (λ c. refl) mul_wide shared_slice_read-wide (λ c κs. tt) (λ c κs. tt) (λ c. search rules) loop-less loop-again same_length returns)
+    (tie.spec invariant-loop decreases-loop (λ c κs. search rules) (λ c. refl) mul_wide shared_slice_read-wide (λ c κs. tt) (λ c κs. tt) (λ c. search rules) loop-less loop-again same_length returns)
