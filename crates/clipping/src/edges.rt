@@ -36,10 +36,7 @@ pub enum Crossed {
 fn if_old(fresh: bool) -> usize
     ensures { result ≡ Counts.if_old fresh 1 }
 {
-    if fresh {
-        return 0;
-    }
-    1
+    usize::from(!fresh)
 }
 
 // The reused points of two stretches of the build together.
@@ -113,6 +110,7 @@ fn crossing_between(vertices: &[f64], count: usize, bounds: BoundingBox, p: u32,
 }
 
 // The same by `project_ray`: with one caller `edge_crossing` is a part of the walk's code, and what asks for a crossing elsewhere has this.
+// Two functions for one contract, here and below, for the time alone (docs/DECISIONS.md): a second caller of `edge_crossing` takes it out of the walk's code.
 fn ray_crossing(bounds: BoundingBox, p: Point, q: Point) -> Crossing
     ensures { result ≡ Def.edge_crossing bounds p q }
 {

@@ -77,7 +77,14 @@ fn write_ends(
 {
     let mut at = site;
     for i in 0..points.len() / 2 {
-        let end = walks::paths::path_end(sites, triangles, halfedges, table, at, point_at(points, i));
+        let end = walks::paths::path_end(
+            sites,
+            triangles,
+            halfedges,
+            table,
+            at,
+            point_at(points, i),
+        );
         out[i] = end;
         at = end;
     }

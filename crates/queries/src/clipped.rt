@@ -14,7 +14,7 @@ use mesh::Walked;
 use walks::neighbours::{Cursor, step};
 
 // How a neighbour that comes is judged: it counts; it is the first and dropped, so the next is asked for; it is the last and dropped.
-#[derive(Clone, Copy)]
+#[derive(Clone, Copy, PartialEq, Eq)]
 enum Judgement {
     Counts,
     Dropped,

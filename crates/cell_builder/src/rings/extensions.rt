@@ -14,18 +14,10 @@ use vertices::{add_at, vertex};
 
 const VORONOI_INFINITY: f64 = 10000000000.0;
 
-const INFINITE: u64 = 0x7FF0_0000_0000_0000;
-
-fn is_finite(x: f64) -> bool
-    ensures { result ≡ finite x }
-{
-    root::magnitude(x) < f64::from_bits(INFINITE)
-}
-
 fn finite_point(p: Point) -> bool
     ensures { result ≡ (finite p.x && finite p.y) }
 {
-    is_finite(p.x) & is_finite(p.y)
+    p.x.is_finite() & p.y.is_finite()
 }
 
 // Where an extension begins, and its direction.
@@ -140,10 +132,7 @@ fn count_old(n: usize, fresh: bool) -> usize
     requires { n < 2 ^ 32 }
     ensures { result ≡ n + if_old fresh 1 }
 {
-    if fresh {
-        return n;
-    }
-    n + 1
+    n + usize::from(!fresh)
 }
 
 // Extends every hull edge. The vertices' numbers go to the index list, from `at` on, which lies before the store's part of it.

@@ -1,4 +1,3 @@
 -- Laws that only proofs use.
-pub mod InsideScan
 pub mod InsideWalk
 pub mod RingCopy

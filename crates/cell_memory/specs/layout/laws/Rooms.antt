@@ -1,10 +1,9 @@
 -- The loops that count the rooms of regions and add them up.
 use Rattle.std.specs.Prelude.{◌≡◌, refl, List, ℕ, zero, suc, ◌+◌, ◌*◌, ◌^◌, ◌≤◌, ◌<◌, get_or, set, take, replicate}
-use Rattle.std.proofs.Common.{sym, ap, ◌∙◌, subst, ⊎_elim, mul-zero, mul-le-mul_left, add-one, arith, length-set, get_or-set_same, get_or-set_other, length-take-le}
+use Rattle.std.proofs.Common.{sym, ap, ◌∙◌, ⊎_elim, mul-zero, mul-le-mul_left, add-one, arith, length-set, get_or-set_same, get_or-set_other, length-take-le}
 use Rattle.std.proofs.Math.Nat.{sub-zero}
 use Rattle.std.proofs.Math.ListN.{length, get_or-eq_default}
 use Rattle.std.proofs.lemmas.List.{length-replicate, get_or-replicate}
-use Rattle.std.proofs.Math.Seq.{take-length}
 use Rattle.base.specs.common.laws.Decide.{eq_or_ne, lt_or_ge}
 use Rattle.base.specs.common.Count.{same, occ, sum_to}
 use Rattle.base.specs.common.laws.Count.{same_cases, occ_length, sum_mono, sum_same, occ_sum, below_occ}
@@ -57,9 +56,6 @@ module _ (l : List ℕ) (by : ℕ) (old : List ℕ) where
             rw (get_or-set_other new (at + 1) (suc s) v 0 (λ p. z.0 (omega arith)), occ_next s i l h) (rw z.1 (omega (arith, g.each s w))))
             (same_cases s (get_or l i 0))
 
-  pub tallied_all : (new : List ℕ) (i : ℕ) → i ≤ length l → length l ≤ i → Tallied (take i l) by old new → Tallied l by old new
-  tallied_all new i h k g = let q : i ≡ length l = omega arith in subst (λ x. Tallied x by old new) (ap (λ k. take k l) q ∙ take-length l) g
-
 -- ---- sums
 module _ (n : ℕ) (old : List ℕ) where
   -- the first i sums stand, the rest is as it was
@@ -95,9 +91,6 @@ module _ (n : ℕ) (old : List ℕ) where
           (eq_or_ne k (i + 1));
       left = λ k l. get_or-set_other new (i + 1) k v 0 (λ q. omega arith) ∙ g.left k (omega arith);
     }
-
-  pub adding_end : (new : List ℕ) (i : ℕ) → n ≤ i → Adding new i → Summed n old new
-  adding_end new i h g = record { long = g.long; each = λ s l. g.done s (omega (arith, g.within)) }
 
 -- ---- all rooms: zeros, then three tallies, then the sums
 module _ (tri hull owners : List ℕ) (n : ℕ) (off : List ℕ) (r : Roomy tri hull owners n off) where
