@@ -149,12 +149,10 @@ fn write_cell(
     if (floats.len() + bits.len()) % 2 != 0 {
         return base::numbers::REFUSED_COUNT;
     }
-    let mut number = 0;
-    let entries = cell_query::cell(offsets, indexes, site, &mut number);
-    if number != 0 {
-        return number;
+    match cell_query::cell(offsets, indexes, site) {
+        Ok(entries) => write_entries(floats, bits, entries, out, written),
+        Err(refusal) => refusal.into(),
     }
-    write_entries(floats, bits, entries, out, written)
 }
 
 // Of vertices as floats.
