@@ -100,7 +100,7 @@ fn of_mesh(
     let mut indexes = [0u32; printing::INDEXES];
     let mut offsets = [0u32; printing::OFFSETS];
     let mut counts = [0u32; printing::COUNTS];
-    let number = building::build(
+    let number = base::refusal::number(building::build(
         given,
         sites,
         triangles,
@@ -111,7 +111,7 @@ fn of_mesh(
         &mut indexes,
         &mut offsets,
         &mut counts,
-    );
+    ));
     show(
         out,
         number,

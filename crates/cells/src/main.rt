@@ -33,7 +33,7 @@ fn of_mesh(
     let mut indexes = [0u32; printing::INDEXES];
     let mut offsets = [0u32; printing::OFFSETS];
     let mut counts = [0u32; printing::COUNTS];
-    let number = building::build(
+    let number = base::refusal::number(building::build(
         given,
         sites,
         triangles,
@@ -44,7 +44,7 @@ fn of_mesh(
         &mut indexes,
         &mut offsets,
         &mut counts,
-    );
+    ));
     let n = narrow(sites.len() / 2);
     let t = narrow(triangles.len() / 3);
     crate::answer_text::show(out, number, n, t, &offsets, &indexes, &counts)

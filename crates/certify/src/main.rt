@@ -3,7 +3,8 @@
 
 pub mod text;
 
-ghost use Rattle.std.specs.Prelude.{◌≤◌, length, take};
+ghost use Rattle.std.specs.Prelude.{◌≡◌, ◌≤◌, length, take};
+ghost use Rattle.base.specs.refusal.Number.{answer_number};
 ghost use Rattle.plane.specs.given.Finite.{Fits};
 ghost use Rattle.mesh.specs.Accepted.{mesh};
 ghost use Rattle.cutting_calls.specs.call.Steps.{InOrder};
@@ -12,6 +13,7 @@ ghost use Rattle.printing.specs.Printed.{ShownIn};
 ghost use Rattle.certify.specs.Printed.{PiecesTold, CertifyTold, CertifyPrints};
 ghost use Rattle.certify.specs.text.CertifyLine.{certify_text};
 
+use base::refusal::Refusal;
 use form::{COORDINATES, HULL, LINKS};
 use plane::given::Given;
 use std::io;
@@ -75,6 +77,16 @@ fn of_pieces(
     line(out, cut, c.number, c.kind, c.site, c.vertex, c.other)
 }
 
+// The number of a cutting.
+fn cut_number(done: Result<u32, Refusal>) -> u32
+    ensures { result ≡ answer_number done }
+{
+    match done {
+        Ok(_) => 0,
+        Err(refusal) => refusal.into(),
+    }
+}
+
 // Of a mesh in a box.
 fn of_mesh(
     out: &mut [u8],
@@ -92,7 +104,7 @@ fn of_mesh(
     let mut vertices = [0.0f64; CUT_VERTICES];
     let mut indexes = [0u32; CUT_INDEXES];
     let mut offsets = [0u32; printing::OFFSETS];
-    let d = cutting_calls::call::cut(
+    let done = cutting_calls::call::cut(
         given,
         sites,
         triangles,
@@ -107,7 +119,7 @@ fn of_mesh(
     of_pieces(
         out,
         given,
-        d.number,
+        cut_number(done),
         sites,
         &vertices,
         &offsets[..n + 1],

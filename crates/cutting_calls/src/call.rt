@@ -1,15 +1,13 @@
 // The pieces by cutting on a whole lent mesh, with their refusals and every lent slice at exit.
-ghost use Rattle.std.specs.Prelude.{◌≡◌, eqb, length, replicate};
-ghost use Rattle.base.specs.common.Pick.{pick};
-ghost use Rattle.base.specs.numbers.Numbers.{EMPTY};
+ghost use Rattle.base.specs.refusal.Number.{answer_number};
 ghost use Rattle.mesh.specs.Accepted.{mesh};
 ghost use Rattle.cutting_calls.specs.cut_admission.CutSlices.{cut_slices};
-ghost use Rattle.cutting_calls.specs.call.Promise.{CutAnswer};
+ghost use Rattle.cutting_calls.specs.call.Promise.{count_of, done, CutAnswer};
 ghost use Rattle.cutting_calls.specs.call.Steps.{Centered, CutCentered, Meshed, CutMesh, InOrder};
 
 use crate::cut_admission::admit_cut;
 use arguments::asking::ask_box;
-use base::refusal::number;
+use base::refusal::Refusal;
 use cell_builder::rings::circumcenters::calculate_circumcenters;
 use cell_memory::outputs::clear_all;
 use cutting::border::check_border;
@@ -17,14 +15,7 @@ use cutting_writer::sites::cut_sites;
 use plane::boxes::BoundingBox;
 use plane::given::Given;
 
-// The number, and how many vertices there are.
-#[derive(Clone, Copy)]
-pub struct CutDone {
-    pub number: u32,
-    pub count: u32,
-}
-
-// From the circumcenters on: 25, or all pieces.
+// From the circumcenters on: 25, or all pieces. Answers how many vertices there are.
 fn cut_centered(
     b: BoundingBox,
     sites: &[f64],
@@ -35,26 +26,19 @@ fn cut_centered(
     vertices: &mut [f64],
     indexes: &mut [u32],
     offsets: &mut [u32],
-) -> CutDone
+) -> Result<u32, Refusal>
     requires { Centered b sites.now triangles.now halfedges.now hull.now table.now vertices.old indexes.old offsets.old }
     ensures { CutCentered b sites.now triangles.now halfedges.now hull.now table.now
-        vertices.old indexes.old offsets.old result vertices.new indexes.new offsets.new }
+        vertices.old indexes.old offsets.old (done result) vertices.new indexes.new offsets.new }
 {
-    let k = number(check_border(b, sites, triangles, hull, table, vertices));
-    if k != 0 {
+    if let Err(refusal) = check_border(b, sites, triangles, hull, table, vertices) {
         clear_all(vertices, indexes, offsets);
-        return CutDone {
-            number: k,
-            count: 0,
-        };
+        return Err(refusal);
     }
     let count = cut_sites(
         b, sites, triangles, halfedges, table, vertices, indexes, offsets,
     );
-    CutDone {
-        number: 0,
-        count: count as u32,
-    }
+    Ok(count as u32)
 }
 
 // The circumcenters: 11, or what comes of them.
@@ -68,33 +52,22 @@ fn cut_mesh(
     vertices: &mut [f64],
     indexes: &mut [u32],
     offsets: &mut [u32],
-) -> CutDone
+) -> Result<u32, Refusal>
     requires { Meshed b sites.now triangles.now halfedges.now hull.now table.now vertices.old indexes.old offsets.old }
     ensures { CutMesh b sites.now triangles.now halfedges.now hull.now table.now
-        vertices.old indexes.old offsets.old result vertices.new indexes.new offsets.new }
+        vertices.old indexes.old offsets.old (done result) vertices.new indexes.new offsets.new }
 {
     let t = calculate_circumcenters(sites, triangles, vertices);
     if t < triangles.len() / 3 {
         clear_all(vertices, indexes, offsets);
-        return CutDone {
-            number: base::numbers::REFUSED_CIRCUMCENTER,
-            count: 0,
-        };
+        return Err(Refusal::Circumcenter);
     }
     cut_centered(
         b, sites, triangles, halfedges, hull, table, vertices, indexes, offsets,
     )
 }
 
-fn clear_refused(number: u32, work: &mut [u32])
-    ensures { work.new ≡ pick (eqb number 0) (λ _. work.old) (λ _. replicate (length work.old) EMPTY) }
-{
-    if number != 0 {
-        mesh::clear(work);
-    }
-}
-
-// The pieces in the given box.
+// The pieces in the given box. Answers how many vertices there are.
 pub fn cut(
     given: Given,
     sites: &[f64],
@@ -105,24 +78,18 @@ pub fn cut(
     vertices: &mut [f64],
     indexes: &mut [u32],
     offsets: &mut [u32],
-) -> CutDone
+) -> Result<u32, Refusal>
     requires { InOrder given }
     ensures { CutAnswer (mesh sites.now triangles.now halfedges.now hull.now) given
         (cut_slices work.old vertices.old indexes.old offsets.old)
-        (cut_slices work.new vertices.new indexes.new offsets.new) result.number result.count }
+        (cut_slices work.new vertices.new indexes.new offsets.new) (answer_number result) (count_of result) }
 {
     let asked = ask_box(given.sound);
-    let r = admit_cut(
+    admit_cut(
         sites, triangles, halfedges, hull, asked, work, vertices, indexes, offsets,
-    );
-    if r != 0 {
-        return CutDone {
-            number: r,
-            count: 0,
-        };
-    }
+    )?;
     let count = sites.len() / 2;
-    let d = cut_mesh(
+    let done = cut_mesh(
         given.bounds,
         sites,
         triangles,
@@ -133,6 +100,11 @@ pub fn cut(
         indexes,
         offsets,
     );
-    clear_refused(d.number, work);
-    d
+    match done {
+        Ok(many) => Ok(many),
+        Err(refusal) => {
+            mesh::clear(work);
+            Err(refusal)
+        }
+    }
 }

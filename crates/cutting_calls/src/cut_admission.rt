@@ -1,11 +1,13 @@
 // The rules up to 10 that cutting tries on what it is lent, with its own rule 2. After 7 to 10 every lent slice is cleared.
 ghost use Rattle.std.specs.Prelude.{◌<◌};
 ghost use Rattle.base.specs.numbers.Numbers.{refused_triangle};
+ghost use Rattle.base.specs.refusal.Number.{answer_number};
 ghost use Rattle.mesh.specs.Accepted.{mesh};
 ghost use Rattle.cutting_calls.specs.cut_admission.CutSlices.{cut_slices};
 ghost use Rattle.cutting_calls.specs.cut_admission.CutAdmission.{CutRoomAnswer, CutAdmission};
 
 use admission::admit;
+use base::refusal::Refusal;
 use cell_memory::outputs::clear_all;
 
 // Rule 2 on all that cutting is lent, by the lengths of its slices; no where rule 1 is broken.
@@ -46,16 +48,16 @@ pub fn admit_cut(
     triangles: &[u32],
     halfedges: &[u32],
     hull: &[u32],
-    asked: u32,
+    asked: Result<(), Refusal>,
     work: &mut [u32],
     vertices: &mut [f64],
     indexes: &mut [u32],
     offsets: &mut [u32],
-) -> u32
-    requires { asked < refused_triangle }
-    ensures { CutAdmission (mesh sites.now triangles.now halfedges.now hull.now) asked
+) -> Result<(), Refusal>
+    requires { answer_number asked < refused_triangle }
+    ensures { CutAdmission (mesh sites.now triangles.now halfedges.now hull.now) (answer_number asked)
         (cut_slices work.old vertices.old indexes.old offsets.old)
-        (cut_slices work.new vertices.new indexes.new offsets.new) result }
+        (cut_slices work.new vertices.new indexes.new offsets.new) (answer_number result) }
 {
     let roomy = room_for(
         sites.len(),
@@ -67,10 +69,9 @@ pub fn admit_cut(
         indexes.len(),
         offsets.len(),
     );
-    let r = admit(sites, triangles, halfedges, hull, roomy, asked, work);
-    if r < base::numbers::REFUSED_TRIANGLE {
-        return r;
+    let answer = admit(sites, triangles, halfedges, hull, roomy, asked, work);
+    if answer.is_err_and(Refusal::of_mesh) {
+        clear_all(vertices, indexes, offsets);
     }
-    clear_all(vertices, indexes, offsets);
-    r
+    answer
 }

@@ -27,16 +27,25 @@ pub fn voronoi_build(
         (slices work.new vertices.new indexes.new offsets.new counts.new) result }
 {
     let given = plane::given::by_size(cx, cy, width, height);
-    building::build(
+    base::refusal::number(building::build(
         given, sites, triangles, halfedges, hull, work, vertices, indexes, offsets, counts,
-    )
+    ))
 }
 
 // The cell of a site: the part of the index list between its two offsets, empty where it is refused; 4, then 16.
 pub fn cell<'a>(offsets: &[u32], indexes: &'a [u32], site: u32, number: &mut u32) -> &'a [u32]
     ensures { CellPart offsets.now indexes.now site result.now number.new }
 {
-    cell_query::cell(offsets, indexes, site, number)
+    match cell_query::cell(offsets, indexes, site) {
+        Ok(part) => {
+            *number = 0;
+            part
+        }
+        Err(refusal) => {
+            *number = u32::from(refusal);
+            &indexes[..0]
+        }
+    }
 }
 
 // The same as numbers: where the cell starts in the index list, and its length.
@@ -49,8 +58,16 @@ pub fn voronoi_cell(
 ) -> u32
     ensures { Cell offsets.now indexes.now site start.new length.new result }
 {
-    let p = cell_query::place(offsets, indexes, site);
-    *start = p.start;
-    *length = p.length;
-    p.number
+    match cell_query::place(offsets, indexes, site) {
+        Ok(place) => {
+            *start = place.start;
+            *length = place.length;
+            0
+        }
+        Err(refusal) => {
+            *start = 0;
+            *length = 0;
+            u32::from(refusal)
+        }
+    }
 }

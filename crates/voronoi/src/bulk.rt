@@ -2,6 +2,8 @@
 ghost use Rattle.mesh.specs.Accepted.{mesh};
 ghost use Rattle.voronoi.specs.Bulk.{AllNeighbours, EndsOfPaths};
 
+use base::refusal::number;
+
 // The lists of `voronoi_clipped_neighbours` of every site, one after the other, cut by `starts`; with no cells lent those of `voronoi_neighbours`.
 pub fn voronoi_all_neighbours(
     sites: &[f64],
@@ -17,9 +19,9 @@ pub fn voronoi_all_neighbours(
     ensures { AllNeighbours (mesh sites.now triangles.now halfedges.now hull.now)
         offsets.now indexes.now work.old work.new starts.old starts.new out.old out.new result }
 {
-    queries::bulk_neighbours::all_neighbours(
+    number(queries::bulk_neighbours::all_neighbours(
         sites, triangles, halfedges, hull, offsets, indexes, work, starts, out,
-    )
+    ))
 }
 
 // The last site of the path to each point, the first path from `site`, each next from the last end.
@@ -36,5 +38,5 @@ pub fn voronoi_ends(
     ensures { EndsOfPaths (mesh sites.now triangles.now halfedges.now hull.now) site points.now
         work.old work.new out.old out.new result }
 {
-    queries::bulk_ends::ends(sites, triangles, halfedges, hull, site, points, work, out)
+    number(queries::bulk_ends::ends(sites, triangles, halfedges, hull, site, points, work, out))
 }

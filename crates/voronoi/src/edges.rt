@@ -195,9 +195,9 @@ pub fn voronoi_build_by_edges(
         (slices work.new vertices.new indexes.new offsets.new counts.new) result }
 {
     let given = plane::given::by_edges(left, top, right, bottom);
-    building::build(
+    base::refusal::number(building::build(
         given, sites, triangles, halfedges, hull, work, vertices, indexes, offsets, counts,
-    )
+    ))
 }
 
 // asked: 0 nothing, 1 about the site `first`, more about `second` as a neighbour of `first`. The kind and the places are always written.

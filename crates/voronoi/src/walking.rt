@@ -1,10 +1,35 @@
 // Walks, neighbours and paths on a mesh, and what triangles and cells share. Every mesh query checks the mesh. A list is written up to the output's
 // length; `count` is how many entries were written and `ended` 1 where the last one written ends the list. A lent number is always written.
+ghost use Rattle.std.specs.Prelude.{◌≡◌};
+ghost use Rattle.base.specs.refusal.Number.{answer_number};
 ghost use Rattle.plane.specs.points.Plane.{at};
+ghost use Rattle.plane_calls.specs.Plane.{bit};
 ghost use Rattle.mesh.specs.Accepted.{mesh};
+ghost use Rattle.queries.specs.Answers.{count_of, ended_of};
 ghost use Rattle.voronoi.specs.Walks.{Walk, Neighbours, ClippedNeighbours, Path, SharedEdge, CellsShareEdge};
 
+use base::numbers::EMPTY;
+use base::refusal::Refusal;
 use plane::points::Point;
+use queries::Listed;
+
+// The number; the count and the end of a list in the lent numbers, none and no where it is refused.
+fn put_listed(answer: Result<Listed, Refusal>, count: &mut u32, ended: &mut u32) -> u32
+    ensures { (result ≡ answer_number answer) × (count.new ≡ count_of answer) × (ended.new ≡ bit (ended_of answer)) }
+{
+    match answer {
+        Ok(listed) => {
+            *count = listed.count;
+            *ended = plane_calls::yes(listed.ended);
+            0
+        }
+        Err(refusal) => {
+            *count = 0;
+            *ended = 0;
+            u32::from(refusal)
+        }
+    }
+}
 
 // The half-edges that end at a site, from its leftmost one on.
 pub fn voronoi_walk(
@@ -21,10 +46,8 @@ pub fn voronoi_walk(
     ensures { Walk (mesh sites.now triangles.now halfedges.now hull.now) site work.old
         work.new out.old out.new count.new ended.new result }
 {
-    let r = queries::walk(sites, triangles, halfedges, hull, site, work, out);
-    *count = r.count;
-    *ended = plane_calls::yes(r.ended);
-    r.number
+    let answer = queries::walk(sites, triangles, halfedges, hull, site, work, out);
+    put_listed(answer, count, ended)
 }
 
 // The start sites along the walk; a hull site adds the last end.
@@ -42,10 +65,8 @@ pub fn voronoi_neighbours(
     ensures { Neighbours (mesh sites.now triangles.now halfedges.now hull.now) site work.old
         work.new out.old out.new count.new ended.new result }
 {
-    let r = queries::neighbours(sites, triangles, halfedges, hull, site, work, out);
-    *count = r.count;
-    *ended = plane_calls::yes(r.ended);
-    r.number
+    let answer = queries::neighbours(sites, triangles, halfedges, hull, site, work, out);
+    put_listed(answer, count, ended)
 }
 
 // The neighbours whose cells still share an edge with the site's, on the hull; 16 is tried on the cells.
@@ -66,12 +87,10 @@ pub fn voronoi_clipped_neighbours(
         offsets.now indexes.now site
         work.old work.new out.old out.new count.new ended.new result }
 {
-    let r = queries::clipped_neighbours(
+    let answer = queries::clipped_neighbours(
         sites, triangles, halfedges, hull, offsets, indexes, site, work, out,
     );
-    *count = r.count;
-    *ended = plane_calls::yes(r.ended);
-    r.number
+    put_listed(answer, count, ended)
 }
 
 // From site to site, each time to the first of the nearest neighbours while that is strictly nearer to (x, y).
@@ -92,10 +111,8 @@ pub fn voronoi_path(
         work.old work.new out.old out.new count.new ended.new result }
 {
     let p = Point { x, y };
-    let r = queries::path(sites, triangles, halfedges, hull, site, p, work, out);
-    *count = r.count;
-    *ended = plane_calls::yes(r.ended);
-    r.number
+    let answer = queries::path(sites, triangles, halfedges, hull, site, p, work, out);
+    put_listed(answer, count, ended)
 }
 
 // The half-edge of triangle a on the edge that it shares with triangle b, or EMPTY.
@@ -112,9 +129,16 @@ pub fn voronoi_shared_edge(
     ensures { SharedEdge (mesh sites.now triangles.now halfedges.now hull.now) a b
         work.old work.new edge.new result }
 {
-    let r = queries::shared_edge(sites, triangles, halfedges, hull, a, b, work);
-    *edge = r.edge;
-    r.number
+    match queries::shared_edge(sites, triangles, halfedges, hull, a, b, work) {
+        Ok(e) => {
+            *edge = e;
+            0
+        }
+        Err(refusal) => {
+            *edge = EMPTY;
+            u32::from(refusal)
+        }
+    }
 }
 
 // Whether the cells of sites a and b share an edge, that is two entries.
@@ -127,7 +151,14 @@ pub fn voronoi_cells_share_edge(
 ) -> u32
     ensures { CellsShareEdge offsets.now indexes.now a b yes.new result }
 {
-    let r = cell_query::cells_share_edge(offsets, indexes, a, b);
-    *yes = plane_calls::yes(r.yes);
-    r.number
+    match cell_query::cells_share_edge(offsets, indexes, a, b) {
+        Ok(share) => {
+            *yes = plane_calls::yes(share);
+            0
+        }
+        Err(refusal) => {
+            *yes = 0;
+            u32::from(refusal)
+        }
+    }
 }

@@ -1,9 +1,11 @@
 -- What cutting promises: its number, each lent slice at exit by one rule of that number, and the count of vertices.
-use Rattle.std.specs.Prelude.{◌≡◌, true, List, [], ◌++◌, ℕ, ◌+◌, ◌*◌, ◌/◌, eqb, Float, length}
+use Rattle.std.specs.Prelude.{◌≡◌, true, List, [], ◌++◌, ℕ, ◌+◌, ◌*◌, ◌/◌, eqb, Float, length, Result, Ok, Err}
 use Rattle.base.specs.common.Pick.{pick}
 use Rattle.base.specs.common.Refusals.{Finds}
 use Rattle.base.specs.common.Binary64.{zero}
 use Rattle.base.specs.numbers.Numbers.{EMPTY}
+use Rattle.base.specs.declared.refusal.Refusal.{Refusal}
+use Rattle.base.specs.refusal.Number.{answer_number}
 use Rattle.plane.specs.points.Flat.{pour}
 use Rattle.plane.specs.declared.points.Point.{Point}
 use Rattle.plane.specs.declared.boxes.BoundingBox.{BoundingBox}
@@ -20,6 +22,19 @@ use Rattle.admission.specs.Admits.{asked_rules}
 use Rattle.cutting_calls.specs.cut_admission.CutSlices.{CutSlices, cut_room_of}
 use Rattle.cutting.specs.border.Border.{border_number}
 use Rattle.cutting_writer.specs.sites.Pieces.{Sheet, start_sheet, cut_sheet}
+
+-- what is told of a cutting: the number, and how many vertices there are
+pub record CutDone : Type 0 where
+  pub number : ℕ
+  pub count : ℕ
+
+-- none where it is refused
+abbrev pub count_of : Result ℕ Refusal → ℕ
+count_of (Ok n) = n
+count_of (Err _) = 0
+
+abbrev pub done : Result ℕ Refusal → CutDone
+done r = record { number = answer_number r; count = count_of r }
 
 -- the circumcenters of all triangles, or 11
 abbrev pub centers_of : List Float → List ℕ → Outcome Fault (List Point)

@@ -12,8 +12,7 @@ use Rattle.cell_builder.specs.rings.Centers.{Named}
 use Rattle.cutting.specs.sides.Kept.{Ordered}
 use Rattle.cutting.specs.border.Border.{border_number}
 use Rattle.cutting_writer.specs.sites.Pieces.{Sheet, cut_sheet, CutInto, Cuttable}
-use Rattle.cutting_calls.specs.declared.call.CutDone.{CutDone}
-use Rattle.cutting_calls.specs.call.Promise.{centers_of, number_by, sheet_by}
+use Rattle.cutting_calls.specs.call.Promise.{CutDone, centers_of, number_by, sheet_by}
 
 -- after a refusal: no vertex, and all three slices cleared
 pub record Emptied (v : List Float) (ix off : List ℕ) (count : ℕ) (v₁ : List Float) (ix₁ off₁ : List ℕ) : Type 0 where

@@ -29,8 +29,7 @@ use Rattle.cutting_calls.specs.cut_admission.CutSlices.{CutSlices, cut_slices, c
 use Rattle.cutting_calls.specs.cut_admission.CutAdmission.{CutAdmission}
 use Rattle.cutting_calls.specs.cut_admission.laws.CutRoom.{CutGranted, cut_granted}
 use Rattle.cutting_laws.specs.fit.laws.Room.{roomy_start}
-use Rattle.cutting_calls.specs.declared.call.CutDone.{CutDone}
-use Rattle.cutting_calls.specs.call.Promise.{cut_number, cut_of, CutAnswer}
+use Rattle.cutting_calls.specs.call.Promise.{CutDone, cut_number, cut_of, CutAnswer}
 use Rattle.cutting_calls.specs.call.Steps.{Meshed, CutMesh, InOrder}
 
 module _ (g : Given) {m : Mesh} {asked : ℕ} {old new : CutSlices} {r : ℕ} (a : CutAdmission m asked old new r) (ask : Asked (box_rules g.sound) asked) where

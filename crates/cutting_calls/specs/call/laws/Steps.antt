@@ -13,8 +13,7 @@ use Rattle.base.specs.common.Pick.{pick}
 use Rattle.ring_area.specs.lowest.Lowest.{any_below}
 use Rattle.cutting.specs.border.Border.{refused_border, undirected_at, turns_to, once_of, border_number}
 use Rattle.cutting_writer.specs.sites.Pieces.{cut_sheet, CutInto, Cuttable}
-use Rattle.cutting_calls.specs.declared.call.CutDone.{CutDone}
-use Rattle.cutting_calls.specs.call.Promise.{centers_of, number_by, sheet_by}
+use Rattle.cutting_calls.specs.call.Promise.{CutDone, centers_of, number_by, sheet_by}
 use Rattle.cutting_calls.specs.call.Steps.{CutBy, Centered, CutCentered, Meshed}
 
 module _ (b : BoundingBox) (sites : List Float) (tri he hull table : List ℕ) (v : List Float) (ix off : List ℕ) (t : ℕ) (w : List Float) where

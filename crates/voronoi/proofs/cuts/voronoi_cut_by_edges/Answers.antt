@@ -1,0 +1,10 @@
+-- The box by its edges, and the call in it.
+use Rattle.cutting_calls.specs.call.laws.Order.{edges_ordered}
+use Rattle.voronoi.specs.laws.InGiven.{cut_in}
+use Rattle.voronoi.proofs.cuts.voronoi_cut_by_edges.Goals as goal
+
+pub cut-done-requires : goal.cut-done-requires
+cut-done-requires c = rw c.by_edges-given.ensures (edges_ordered _ _ _ _)
+
+pub returns : goal.returns
+returns c = let p = c.put_count.ensures in rw (p.0, p.1) (cut_in c.by_edges-given.ensures c.cut-done.ensures)
