@@ -1,11 +1,11 @@
--- The number of a refusal is not 0, so an answer with the number 0 refuses nothing; and what a `?` hands on has the number of what it met.
-use Rattle.std.specs.Prelude.{◌≡◌, ◌≢◌, Result, Ok, Err}
+-- The number of a refusal is not 0, so an answer with the number 0 refuses nothing; and what a `?` hands on is the refusal that it met.
+use Rattle.std.specs.Prelude.{◌≡◌, ◌≢◌, Result, Err}
 use Rattle.std.specs.Result.{IsErrAnd}
 use Rattle.std.proofs.Common.{◌∙◌, ap, arith}
 use Rattle.std.proofs.lemmas.Result.{err_from_is_err_and}
 use Rattle.base.specs.declared.refusal.Refusal.{Refusal}
 use Rattle.base.specs.declared.refusal.Refusal.TheVariants as refusal
-use Rattle.base.specs.refusal.Number.{number_of, answer_number}
+use Rattle.base.specs.refusal.Number.{number_of}
 
 pub some_number : (r : Refusal) → number_of r ≢ 0
 some_number refusal.Count e = omega arith
@@ -33,5 +33,5 @@ some_number refusal.Flip e = omega arith
 some_number refusal.Corner e = omega arith
 some_number refusal.Border e = omega arith
 
-pub handed_on : {T : Type 0} (r : Result T Refusal) (d : Refusal) → IsErrAnd r (λ e. e ≡ d) → answer_number r ≡ number_of d
-handed_on r d x = let p = err_from_is_err_and r x in ap answer_number p.1 ∙ ap number_of p.2
+pub handed_on : {T : Type 0} (r : Result T Refusal) (d : Refusal) → IsErrAnd r (λ e. e ≡ d) → r ≡ Err d
+handed_on r d x = let p = err_from_is_err_and r x in p.1 ∙ ap Err p.2
