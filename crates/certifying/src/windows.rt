@@ -10,6 +10,7 @@ ghost use Rattle.certifying.specs.windows.Windows.{lesser_of, most_of, clear_of,
 use base::numbers::wide;
 use plane::points::{Point, coordinate_ok, point_at};
 
+// Not plane's box: that has a center too, by which its edges are made.
 #[derive(Clone, Copy)]
 pub struct Window {
     pub left: f64,
@@ -18,6 +19,7 @@ pub struct Window {
     pub bottom: f64,
 }
 
+// The first of two that do not differ. By hand: std's min and max take the other number where one is a NaN, and either of 0 and -0.
 pub fn lesser(x: f64, y: f64) -> f64
     ensures { result ≡ lesser_of x y }
 {
@@ -37,10 +39,6 @@ pub fn greater(x: f64, y: f64) -> f64
 }
 
 // ---- where the edges are put
-fn apart(x: f64, y: f64) -> f64 {
-    greater(x - y, y - x)
-}
-
 // A little more than the root of a * a + 2 * b * b.
 fn reach(a: f64, b: f64) -> f64 {
     let c = b * 1.4143;
@@ -49,8 +47,8 @@ fn reach(a: f64, b: f64) -> f64 {
 
 // With the corner p of the piece of s.
 fn opened(w: Window, s: Point, p: Point) -> Window {
-    let x = apart(p.x, s.x);
-    let y = apart(p.y, s.y);
+    let x = root::magnitude(p.x - s.x);
+    let y = root::magnitude(p.y - s.y);
     let across = reach(x, y);
     let down = reach(y, x);
     let left = lesser(w.left, p.x - across);
