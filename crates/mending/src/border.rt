@@ -6,7 +6,7 @@ ghost use Rattle.base.specs.refusal.Number.{answer_number};
 ghost use Rattle.mesh.specs.Mesh.{AllSound, AllPaired};
 ghost use Rattle.mending.specs.pairs.Chains.{NamesSites};
 ghost use Rattle.mending.specs.border.Loop.{lead_at, leads_to, lowest_to, loop_begin, loop_step, loop_of, hull_of};
-ghost use Rattle.mending.specs.border.Answer.{OnTable, Closed, hull_count, TracedHull};
+ghost use Rattle.mending.specs.border.Answer.{OnTable, Closed, TracedHull};
 
 use base::numbers::{EMPTY, wide};
 use base::refusal::Refusal;
@@ -115,7 +115,14 @@ fn trace_hull(
     trace(work, begin, mended)
 }
 
-// The hull, with rules 9 and 10, and how many sites it has. Not refused, the work slice has the leftmost table, then `EMPTY`.
+// How many sites the hull has, also where it is refused, and what rules 9 and 10 say of it.
+#[derive(Clone, Copy)]
+pub struct Traced {
+    pub count: usize,
+    pub verdict: Result<(), Refusal>,
+}
+
+// The hull, with rules 9 and 10. Not refused, the work slice has the leftmost table, then `EMPTY`.
 pub fn mend_hull(
     triangles: &[u32],
     pairs: &[u32],
@@ -123,16 +130,23 @@ pub fn mend_hull(
     sites: usize,
     work: &mut [u32],
     mended: &mut [u32],
-) -> Result<usize, Refusal>
+) -> Traced
     requires { NamesSites triangles.now sites × (length pairs.now ≡ length triangles.now) × (sites < EMPTY) × (sites ≤ length work.old)
         × (sites ≤ length mended.old) × AllSound triangles.now sites × AllPaired triangles.now pairs.now }
     ensures { TracedHull triangles.now pairs.now first sites work.old work.new mended.old mended.new
-        (answer_number result) (hull_count result) }
+        (answer_number result.verdict) result.count }
 {
     let count = trace_hull(triangles, pairs, first, &mut work[..sites], mended);
     if count < 3 {
-        return Err(Refusal::Hull);
+        return Traced {
+            count,
+            verdict: Err(Refusal::Hull),
+        };
     }
-    mesh_check::whole::check_border(triangles, pairs, &mended[..count], sites, work)?;
-    Ok(count)
+    let checked =
+        mesh_check::whole::check_border(triangles, pairs, &mended[..count], sites, work);
+    Traced {
+        count,
+        verdict: checked.map_err(Refusal::from),
+    }
 }

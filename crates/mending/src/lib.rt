@@ -105,7 +105,11 @@ fn work_out(
     }
     mesh::clear(mended);
     let n = triangles.len();
-    crate::border::mend_hull(triangles, &pairs[..n], first, sites, work, mended)
+    let traced = crate::border::mend_hull(triangles, &pairs[..n], first, sites, work, mended);
+    match traced.verdict {
+        Ok(()) => Ok(traced.count),
+        Err(refusal) => Err(refusal),
+    }
 }
 
 // Rules 19, 9 and 10, where 1, 2, 6 and 7 hold; and what was worked out, with the list of changes.

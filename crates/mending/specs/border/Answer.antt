@@ -36,6 +36,6 @@ hull_count (Err r) = 0
 
 pub record TracedHull (tri he : List ℕ) (first sites : ℕ) (w w' m m' : List ℕ) (number k : ℕ) : Type 0 where
   pub found : Finds (border_rules tri he sites) 0 number
-  pub count : number ≡ 0 → k ≡ length (hull_of tri he first sites)
+  pub count : k ≡ length (hull_of tri he first sites)
   pub mended : m' ≡ sets m 0 (hull_of tri he first sites)
   pub table : number ≡ 0 → w' ≡ leftmost_in tri he sites (length w)

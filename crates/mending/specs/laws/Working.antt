@@ -65,8 +65,12 @@ module _ (tri : List ℕ) (first n : ℕ) (old new : Lent) where
         work = λ z. rw (← lw) (t.table z);
         pairs = λ z. pairs_filled tri b h s new.pairs (length old.pairs) zs ls a room;
         mended = λ z. sets_filled (hull_of tri (pairs_of tri) first n) m new.mended (length old.mended) zm lm (omega (arith, hull_fits tri (pairs_of tri) first n)) t.mended;
-        count = t.count;
+        count = λ z. t.count;
       }
+
+-- where it is refused no count is told
+pub uncounted : {tri : List ℕ} {first n : ℕ} {old new : Lent} {r k : ℕ} → WorkedOut tri first n old new r k → r ≢ 0 → WorkedOut tri first n old new r 0
+uncounted x z = record { found = x.found; work = x.work; pairs = x.pairs; mended = x.mended; count = λ e. absurd (z e) }
 
 -- what was worked out, and the list of changes to it
 module _ (tri he hull : List ℕ) (n : ℕ) (old mid : Lent) (s k : ℕ) (w : WorkedOut tri (get_or hull 0 0) n old mid s k) (z : s ≡ 0) where

@@ -1,9 +1,7 @@
 -- Fewer than three sites are no hull; else rules 9 and 10 on the loop decide.
 use Rattle.std.proofs.Common.{refl, sym, arith}
-use Rattle.std.proofs.lemmas.Result.{err_from_is_err_and}
-use Rattle.base.specs.refusal.laws.Number.{some_number}
 use Rattle.mesh.specs.laws.Refusing.{fault_number}
-use Rattle.mending.specs.border.laws.Deciding.{few_on, hull_room, traced_short, traced_checked, uncounted}
+use Rattle.mending.specs.border.laws.Deciding.{few_on, hull_room, traced_short, traced_checked}
 use Rattle.mending.proofs.border.mend_hull.Goals as goal
 use lib.Seq.{length-take-le, length_front}
 
@@ -23,8 +21,8 @@ slice_bounds-check_border-end-2 c =
     c.trace_hull-count.ensures.0 c.trace_hull-count.ensures.1 c.requires.4 in
     sym (length-take-le _ _ (omega (arith, c.trace_hull-count.auto.mended)))
 
-pub check_border-requires : goal.check_border-requires
-check_border-requires c =
+pub check_border-checked-requires : goal.check_border-checked-requires
+check_border-checked-requires c =
     let k = few_on _ _ _ _ c.requires.0 c.requires.1 c.requires.2 c.args.work.now c.args.work.now _ _ _ _ (length-take-le _ _ c.requires.3)
     c.trace_hull-count.ensures.0 c.trace_hull-count.ensures.1 in
     let r = hull_room _ _ _ _ c.requires.0 c.requires.1 c.requires.2 c.args.work.now c.args.work.now _ _ _ _ (length-take-le _ _ c.requires.3)
@@ -38,15 +36,8 @@ check_border-requires c =
       c.requires.6,
     )
 
-pub returns-in_err-check_border : goal.returns-in_err-check_border
-returns-in_err-check_border c =
-    let p = err_from_is_err_and c.from_residual.result c.from_residual.ensures.1 in
-    rw (p.1, p.2) (uncounted (traced_checked _ _ _ _ c.requires.0 c.requires.1 c.requires.2 _ _ _ _ _ _ (length-take-le _ _ c.requires.3)
-    c.trace_hull-count.ensures.0 c.trace_hull-count.ensures.1 c.if-count-lt3.false c.requires.4 _
-    (length_front c.args.work.now c.trace_hull-count.new.work c.args.sites c.trace_hull-count.auto.work) _ c.in_err-check_border.ensures _ (fault_number _)) (some_number _))
-
 pub returns : goal.returns
 returns c =
     traced_checked _ _ _ _ c.requires.0 c.requires.1 c.requires.2 _ _ _ _ _ _ (length-take-le _ _ c.requires.3)
     c.trace_hull-count.ensures.0 c.trace_hull-count.ensures.1 c.if-count-lt3.false c.requires.4 _
-    (length_front c.args.work.now c.trace_hull-count.new.work c.args.sites c.trace_hull-count.auto.work) _ c.in_ok-check_border.ensures _ refl
+    (length_front c.args.work.now c.trace_hull-count.new.work c.args.sites c.trace_hull-count.auto.work) _ c.check_border-checked.ensures _ ?

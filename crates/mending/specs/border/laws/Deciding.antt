@@ -66,10 +66,10 @@ module _ (tri he : List ℕ) (first sites : ℕ) (named : NamesSites tri sites) 
     pub hull_room : sites ≤ length m → k ≤ length m
     hull_room l = omega (arith, few_on)
 
-    pub traced_short : k < 3 → TracedHull tri he first sites w w' m m' refused_hull 0
+    pub traced_short : k < 3 → TracedHull tri he first sites w w' m m' refused_hull k
     traced_short l =
         let q : k ≡ length (hull_of tri he first sites) = rw z at count in
-        record { found = decide_short (rw (← q) l); count = λ y. absurd (omega arith); mended = rw z at mended; table = λ y. absurd (omega arith) }
+        record { found = decide_short (rw (← q) l); count = q; mended = rw z at mended; table = λ y. absurd (omega arith) }
 
     pub traced_checked : 3 ≤ k → sites ≤ length m → (w₁ : List ℕ) → length w₁ ≡ length w → (f : Result ⊤ MeshFault) → BorderAnswer tri he (take k m') sites w₁ w' f
         → (r : ℕ) → r ≡ number_of f → TracedHull tri he first sites w w' m m' r k
@@ -80,11 +80,7 @@ module _ (tri he : List ℕ) (first sites : ℕ) (named : NamesSites tri sites) 
         ap (take k) v ∙ ap (λ j. take j (sets m 0 (hull_of tri he first sites))) q ∙ sets_there (hull_of tri he first sites) m 0 (omega (arith, few_on)) in
         record {
           found = rw p (decide_checked (rw (← q) l) f (rw e at a.found));
-          count = λ _. q;
+          count = q;
           mended = v;
           table = λ y. rw (← long) (a.table (sym p ∙ y));
         }
-
--- where it is refused no count is told
-pub uncounted : {tri he : List ℕ} {first sites : ℕ} {w w' m m' : List ℕ} {r k : ℕ} → TracedHull tri he first sites w w' m m' r k → r ≢ 0 → TracedHull tri he first sites w w' m m' r 0
-uncounted x n = record { found = x.found; count = λ z. absurd (n z); mended = x.mended; table = x.table }
