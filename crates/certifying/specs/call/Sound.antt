@@ -12,7 +12,8 @@ use Rattle.auditing.specs.corners.Outside.{site_outside}
 use Rattle.auditing.specs.nearer.Nearer.{site_nearer}
 use Rattle.auditing.specs.places.Places.{has_twin}
 use Rattle.certifying.specs.sides.Sides.{ends_of, side_count, surplus_at, left_once}
-use Rattle.certifying.specs.call.Verdict.{CertifyVerdict, certify_far, certify_kind, certify_twin, twin_stage, certify_nearer, near_stage, border_stage, certify_side, side_stage, certify_outside, certify_on}
+use Rattle.certifying.specs.call.Verdict.{CertifyVerdict, certify_far, certify_kind}
+use Rattle.certifying.specs.call.Verdict.{certify_twin, twin_stage, certify_nearer, near_stage, border_stage, certify_side, side_stage, certify_outside, certify_on}
 use Rattle.certifying.specs.declared.call.CertifyFault.{CertifyFault}
 use Rattle.certifying.specs.declared.call.CertifyFault.TheVariants.{Border}
 
