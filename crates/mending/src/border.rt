@@ -143,10 +143,14 @@ pub fn mend_hull(
             verdict: Err(Refusal::Hull),
         };
     }
-    let checked =
-        mesh_check::whole::check_border(triangles, pairs, &mended[..count], sites, work);
-    Traced {
-        count,
-        verdict: checked.map_err(Refusal::from),
+    match mesh_check::whole::check_border(triangles, pairs, &mended[..count], sites, work) {
+        Ok(()) => Traced {
+            count,
+            verdict: Ok(()),
+        },
+        Err(fault) => Traced {
+            count,
+            verdict: Err(fault.into()),
+        },
     }
 }

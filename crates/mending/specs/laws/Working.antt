@@ -1,5 +1,5 @@
 -- How pairs, hull and changes that were worked out stand in the slices.
-use Rattle.std.specs.Prelude.{◌≡◌, List, ◌++◌, Bool, true, false, ℕ, ◌≤◌, length, get_or, take, replicate}
+use Rattle.std.specs.Prelude.{◌≡◌, ◌≢◌, List, ◌++◌, Bool, true, false, ℕ, ◌≤◌, length, get_or, take, replicate}
 use Rattle.std.proofs.Common.{sym, ap, ◌∙◌, arith}
 use Rattle.base.specs.common.Refusals.{Finds}
 use Rattle.base.specs.common.laws.Refusals.{breaks, keeps}

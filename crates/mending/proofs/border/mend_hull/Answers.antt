@@ -21,8 +21,8 @@ slice_bounds-check_border-end-2 c =
     c.trace_hull-count.ensures.0 c.trace_hull-count.ensures.1 c.requires.4 in
     sym (length-take-le _ _ (omega (arith, c.trace_hull-count.auto.mended)))
 
-pub check_border-checked-requires : goal.check_border-checked-requires
-check_border-checked-requires c =
+pub check_border-requires : goal.check_border-requires
+check_border-requires c =
     let k = few_on _ _ _ _ c.requires.0 c.requires.1 c.requires.2 c.args.work.now c.args.work.now _ _ _ _ (length-take-le _ _ c.requires.3)
     c.trace_hull-count.ensures.0 c.trace_hull-count.ensures.1 in
     let r = hull_room _ _ _ _ c.requires.0 c.requires.1 c.requires.2 c.args.work.now c.args.work.now _ _ _ _ (length-take-le _ _ c.requires.3)
@@ -36,8 +36,15 @@ check_border-checked-requires c =
       c.requires.6,
     )
 
-pub returns : goal.returns
-returns c =
+pub returns-in-Ok : goal.returns-in-Ok
+returns-in-Ok c =
     traced_checked _ _ _ _ c.requires.0 c.requires.1 c.requires.2 _ _ _ _ _ _ (length-take-le _ _ c.requires.3)
     c.trace_hull-count.ensures.0 c.trace_hull-count.ensures.1 c.if-count-lt3.false c.requires.4 _
-    (length_front c.args.work.now c.trace_hull-count.new.work c.args.sites c.trace_hull-count.auto.work) _ c.check_border-checked.ensures _ ?
+    (length_front c.args.work.now c.trace_hull-count.new.work c.args.sites c.trace_hull-count.auto.work) _ c.in-Ok.ensures _ refl
+
+pub returns-in-Err : goal.returns-in-Err
+returns-in-Err c =
+    rw c.into.ensures
+    (traced_checked _ _ _ _ c.requires.0 c.requires.1 c.requires.2 _ _ _ _ _ _ (length-take-le _ _ c.requires.3)
+    c.trace_hull-count.ensures.0 c.trace_hull-count.ensures.1 c.if-count-lt3.false c.requires.4 _
+    (length_front c.args.work.now c.trace_hull-count.new.work c.args.sites c.trace_hull-count.auto.work) _ c.in-Err.ensures _ (fault_number _))
