@@ -29,7 +29,7 @@ returns-in_err-admit_fans c =
     let k = c.build_cells-told.auto in
     rw (handed_on c.from_residual-in_err-admit_fans.result _ c.from_residual-in_err-admit_fans.ensures.1)
     (build_broken c.in_ok-admit_outline.ensures c.args.given c.ask_box-asked.ensures c.requires refl c.build_cells-told.ensures
-        c.in_err-admit_fans.ensures (some_number _) k.vertices k.indexes k.offsets)
+    c.in_err-admit_fans.ensures (some_number _) k.vertices k.indexes k.offsets)
 
 pub finish_build-requires : goal.finish_build-requires
 finish_build-requires c =
@@ -49,4 +49,4 @@ pub returns : goal.returns
 returns c =
     rw c.refusal.ensures
     (build_built c.in_ok-admit_outline.ensures c.args.given c.ask_box-asked.ensures c.requires refl c.build_cells-told.ensures c.in_ok-admit_fans.ensures refl
-        c.finish_build.ensures)
+    c.finish_build.ensures)

@@ -34,4 +34,4 @@ returns c =
     let ok = granted c.cells_ok.result (ap not c.if-not-cells_ok.false) c.cells_ok.ensures in
     rw (c.given.ensures.0, c.given.ensures.1)
     (clipped_given c.in_ok-admit_list.ensures q _ _ refl _ _ _ _ ok
-        (clipped_fills (served c.in_ok-admit_list.ensures refl q tt) ok _ (rw c.wide.ensures) c.clipped_neighbours.ensures) refl)
+    (clipped_fills (served c.in_ok-admit_list.ensures refl q tt) ok _ (rw c.wide.ensures) c.clipped_neighbours.ensures) refl)
