@@ -9,7 +9,7 @@ loop-i-init c = record { few = omega arith; long = refl; each = λ j h. absurd (
 
 pub loop-i-preserved : goal.loop-i-preserved
 loop-i-preserved c =
-    loading_next nan _ _ _ c.loop-i.i _ c.loop-i-test.true c.loop-i.invariant (rw (← c.after.ensures, ← c.after-in-loop-i.ensures) c.float.ensures)
+    loading_next nan _ _ _ c.loop-i.i _ (omega (arith, c.loop-i-test.true, c.loop-i.invariant.long)) c.loop-i.invariant (rw (← c.after.ensures, ← c.after-in-loop-i.ensures) c.float.ensures)
 
 pub returns : goal.returns
 returns c = let i = c.loop-i.invariant in record { long = i.long; each = λ j h. i.each j (omega arith) }

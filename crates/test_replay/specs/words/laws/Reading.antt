@@ -1,12 +1,11 @@
 -- Stored words as the code reads them, and the loops that compare and load them: all places before i are as they must be.
-use Rattle.std.specs.Prelude.{◌≡◌, refl, List, [], ◌∷◌, ◌≢◌, Bool, true, false, ℕ, zero, suc, ◌+◌, ◌*◌, ◌%◌, ◌≤◌, ◌<◌, Float, length, get_or, set, eqb}
-use Rattle.std.proofs.Common.{ap, ◌∙◌, ⊎_elim, arith, length-set, get_or-set_same, get_or-set_other, le-leb, lt-ltb, le-ltb, eqb-true}
+use Rattle.std.specs.Prelude.{◌≡◌, refl, List, [], ◌∷◌, true, false, ℕ, zero, suc, ◌+◌, ◌*◌, ◌%◌, ◌≤◌, ◌<◌, Float, length, get_or, set}
+use Rattle.std.proofs.Common.{ap, ◌∙◌, ⊎_elim, arith, length-set, get_or-set_same, get_or-set_other, le-leb, lt-ltb, le-ltb}
 use Rattle.std.specs.Float.{nan, binary64}
 use Rattle.std.specs.Float.Ieee.{ne, of_bits, to_bits}
-use Rattle.std.proofs.lemmas.Bool.{lt-leb, eqb-false}
-use Rattle.base.specs.common.Decide.{Says}
-use Rattle.base.specs.common.laws.Decide.{lt_or_ge, eq_or_ne}
-use Rattle.test_replay.specs.words.Words.{word_of, after_of, expected_of, pattern_of, float_of, bits_of, place_of, expected_bits_of, Has}
+use Rattle.std.proofs.lemmas.Bool.{lt-leb}
+use Rattle.base.specs.common.laws.Decide.{eq_or_ne}
+use Rattle.test_replay.specs.words.Words.{word_of, after_of, expected_of, pattern_of, float_of, bits_of, place_of, expected_bits_of}
 
 pub past_end : (b : List ℕ) (at : ℕ) → length b ≤ at → 0 ≡ get_or b at 0
 past_end [] zero h = refl
@@ -76,15 +75,6 @@ module _ (long : ℕ) (value expected : ℕ → ℕ) (n : ℕ) where
   abbrev pub Same : ℕ → Type 0
   Same i = (j : ℕ) → j < i → value j ≡ expected j
 
-  pub same_next : (i : ℕ) → Same i → value i ≡ expected i → Same (i + 1)
-  same_next i s e j h = ⊎_elim (λ g. s j g) (λ g. let z : j ≡ i = omega arith in rw z e) (lt_or_ge j i)
-
-  pub same_not : (i : ℕ) → i < long → value i ≢ expected i → Has long value expected n → ⊥
-  same_not i h d g = d (g.each i h)
-
-  pub too_short : long < n → Has long value expected n → ⊥
-  too_short h g = omega (arith, g.room)
-
 -- ---- loading
 
 module _ {A : Type 0} (d : A) (value : ℕ → A) (old : List A) where
@@ -102,11 +92,3 @@ module _ {A : Type 0} (d : A) (value : ℕ → A) (old : List A) where
         (λ z. get_or-set_other l i j w d z ∙ g.each j (omega arith))
         (eq_or_ne j i);
   }
-
--- what a comparison tells
-pub same_says : (a b : ℕ) → Says (eqb a b) (a ≡ b)
-same_says a b = go (eqb a b) refl
-  where
-    go : (t : Bool) → eqb a b ≡ t → Says t (a ≡ b)
-    go true h = eqb-true a b h
-    go false h = eqb-false a b h
