@@ -4,7 +4,7 @@ use Rattle.std.proofs.Common.{sym, ap, ◌∙◌, subst, inl, inr}
 use Rattle.std.proofs.lemmas.List.Edits.{sets}
 use Rattle.octets.specs.Bytes.{Bytes, each}
 use Rattle.form.specs.Form.{FormMesh, MeshFits, MayBegin, IsForm, form_of, kind_of, outline_floats, site_floats, triangle_sites, triangle_pairs}
-use Rattle.form.specs.step.Reader.{start, steps, verdict, Reading, reading, takes}
+use Rattle.form.specs.step.Reader.{start, steps, verdict, Reading, reading, takes, Form, sound_of, broken_of}
 use Rattle.form.specs.step.Holds.{Reads}
 use Rattle.form.specs.laws.Run.{takes_reader}
 use Rattle.form.specs.laws.Mesh.{WholeRead, complete}
@@ -12,8 +12,6 @@ use Rattle.form.specs.laws.Exact.{sound_broken, ended_of, answer_ended, accepts,
 use Rattle.form.specs.Place.{Place, NumberAt}
 use Rattle.form.specs.laws.Place.{refused_at_lem}
 use Rattle.form.specs.laws.NumberAt.{number_at}
-use Rattle.form.specs.step.Reader.{Form}
-use Rattle.form.specs.step.Reader.{sound_of, broken_of}
 
 module _ (old : Bool) (s : List ℕ) (bs ss : List Float) (ts es hs : List ℕ) where
   pub record ReadSound (a : Form) (bs' ss' : List Float) (ts' es' hs' : List ℕ) : Type 0 where

@@ -5,9 +5,8 @@ use Rattle.std.specs.Float.Ieee.{of_bits}
 use Rattle.base.specs.numbers.Numbers.{EMPTY}
 use Rattle.base.specs.common.Binary64.{zero, two}
 use Rattle.form.specs.Form.{FormMesh, box, edges, form_of}
-use Rattle.form.specs.step.Reader.{size_of, opens, room_left, follows, start, begun, tally, inside, outside, step, within, put_float, put_link, bounds_by}
-use Rattle.form.specs.step.Reader.{sites_by, triangles_by, halfedges_by, hull_by, Reading, reading, take, takes, verdict}
-use Rattle.form.specs.step.Reader.{sound_of}
+use Rattle.form.specs.step.Reader.{size_of, opens, room_left, follows, start, begun, tally, inside, outside, step, within, put_float, put_link, bounds_by, sites_by, triangles_by, halfedges_by}
+use Rattle.form.specs.step.Reader.{hull_by, Reading, reading, take, takes, verdict, sound_of}
 
 unfoldable pub square_bytes : List ℕ
 square_bytes =

@@ -44,12 +44,10 @@ fn in_both(p: Point, unit: u32) -> bool
 pub fn admitted(p: Point) -> bool
     ensures { result ≡ admitted p }
 {
-    let mut unit = 1u32;
-    for _ in 0..13 {
-        if in_both(p, unit) {
+    for k in 0..13 {
+        if in_both(p, 2u32.pow(k)) {
             return true;
         }
-        unit = 2 * unit;
     }
     false
 }

@@ -4,14 +4,12 @@ use Rattle.std.specs.Prelude.{◌≡◌, refl, Bool, true, false, List, ◌⊎�
 use Rattle.std.proofs.Common.{sym, ap, ◌∙◌, subst, inl, inr, ⊎_elim}
 use Rattle.std.proofs.lemmas.List.Edits.{sets}
 use Rattle.octets.specs.Bytes.{Bytes, each}
-use Rattle.form.specs.step.Reader.{Reading, broken, start, finished, takes, verdict}
-use Rattle.form.specs.step.Holds.{Reads}
+use Rattle.form.specs.step.Reader.{Reading, broken, start, finished, takes, verdict, sound_of, broken_of}
+use Rattle.form.specs.step.Holds.{Reads, form_sound}
 use Rattle.form.specs.step.Standing.{Ok}
 use Rattle.form.specs.step.laws.Standing.{ok_start}
 use Rattle.form.specs.step.laws.Steps.{verdict_broken, verdict_sound}
 use Rattle.form.specs.declared.step.Reader.{Reader}
-use Rattle.form.specs.step.Reader.{sound_of, broken_of}
-use Rattle.form.specs.step.Holds.{form_sound}
 use Rattle.form.specs.laws.Place.{broken_at}
 use Rattle.form.specs.declared.step.Sound.{Sound}
 use Rattle.form.specs.Form.{FormMesh, MeshFits, MayBegin, IsForm, form_of, kind_of, outline_floats, site_floats, triangle_sites, triangle_pairs}

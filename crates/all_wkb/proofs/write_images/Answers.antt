@@ -1,5 +1,5 @@
 -- `all_wkb::write_images` meets its contract: image after image, and where each ends.
-use Rattle.std.proofs.Common.{arith, length-set, ◌∙◌}
+use Rattle.std.proofs.Common.{arith}
 use Rattle.queries.specs.all_neighbours.laws.Writes.{writing_start, next_fits, writing_step, writing_end}
 use Rattle.all_wkb.proofs.write_images.Goals as goal
 

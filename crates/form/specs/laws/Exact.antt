@@ -5,14 +5,13 @@ use Rattle.base.specs.common.Pick.{pick}
 use Rattle.octets.specs.Bytes.{Bytes, each}
 use Rattle.base.specs.numbers.Numbers.{refused_form}
 use Rattle.form.specs.Form.{Outline, box, unclipped, edges, MayBegin, IsForm, OutlineFits, outline_bytes, site_bytes, triangle_bytes, hull_bytes, form_of}
-use Rattle.form.specs.step.Reader.{size_of, opens, follows, broken, start, number_for, refused, begun, outside, step, steps, verdict, Reading, reading, takes}
+use Rattle.form.specs.step.Reader.{size_of, opens, follows, broken, start, number_for, refused, begun, outside, step, steps, verdict, Reading, reading, takes, sound_of, broken_of}
 use Rattle.form.specs.step.laws.Steps.{OpeningKind, box as a-box, none as no_box, edges as four-edges, opens_cases, follows_cases, step_outside}
 use Rattle.form.specs.laws.Run.{Opens, ready_up, takes_reader, opening}
 use Rattle.form.specs.laws.Mesh.{complete}
 use Rattle.form.specs.laws.Cut.{Ended, CutOff, steps_append, body_there, cut_four_lem}
 use Rattle.form.specs.laws.Tail.{FewRecords, Tail, tail, refused_ends}
 use Rattle.form.specs.declared.step.Reader.{Reader}
-use Rattle.form.specs.step.Reader.{sound_of, broken_of}
 
 -- ---- accepted
 

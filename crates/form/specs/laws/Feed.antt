@@ -4,13 +4,11 @@ use Rattle.std.proofs.Common.{sym, ap, ◌∙◌, arith, add-one, drop-cons}
 use Rattle.std.proofs.Math.Seq.{drop-length}
 use Rattle.base.specs.common.Pick.{pick}
 use Rattle.base.specs.numbers.Numbers.{refused_form}
-use Rattle.form.specs.step.Reader.{Reading, reading, broken, start, step, take, takes, verdict}
+use Rattle.form.specs.step.Reader.{Reading, reading, broken, start, step, take, takes, verdict, Form, sound_of, broken_of}
 use Rattle.form.specs.step.Holds.{ListRoom, Few, Reads}
 use Rattle.form.specs.step.Standing.{Ok}
 use Rattle.form.specs.step.laws.Standing.{few_counts, ok_step}
 use Rattle.form.specs.declared.step.Reader.{Reader}
-use Rattle.form.specs.step.Reader.{Form}
-use Rattle.form.specs.step.Reader.{sound_of, broken_of}
 
 abbrev pub RoomIn : Reading → Type 0
 RoomIn d = ListRoom d.bounds d.sites d.triangles d.halfedges d.hull

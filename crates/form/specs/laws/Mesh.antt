@@ -13,10 +13,9 @@ use Rattle.octets.specs.Bytes.{each, All}
 use Rattle.form.specs.Limits.{most_sites, most_triangles, most_hull}
 use Rattle.form.specs.Form.{FormMesh, Site, Triangle, MeshFits, MayBegin, SiteFits, TriangleFits, HullFits, outline_bytes, site_bytes, triangle_bytes}
 use Rattle.form.specs.Form.{hull_bytes, form_of, outline_floats, site_floats, triangle_sites, triangle_pairs, kind_of}
-use Rattle.form.specs.step.Reader.{opens, room_left, start, begun, Reading, reading, takes, verdict}
+use Rattle.form.specs.step.Reader.{opens, room_left, start, begun, Reading, reading, takes, verdict, sound_of}
 use Rattle.form.specs.laws.Run.{AtRecord, Goes, Opening, ready_up, takes_append, kind_follows, kind_run, site_run, triangle_run, hull_run, opening}
 use Rattle.form.specs.declared.step.Reader.{Reader}
-use Rattle.form.specs.step.Reader.{sound_of}
 
 -- ---- runs, one after the other
 

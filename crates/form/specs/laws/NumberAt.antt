@@ -11,7 +11,7 @@ use Rattle.base.specs.numbers.Numbers.{refused_form, refused_unclipped}
 use Rattle.octets.specs.Bytes.{Bytes}
 use Rattle.form.specs.Form.{IsForm}
 use Rattle.form.specs.Place.{Expects, NumberAt}
-use Rattle.form.specs.step.Reader.{broken, start, number_for, refused, outside, step, steps, verdict}
+use Rattle.form.specs.step.Reader.{broken, start, number_for, refused, outside, step, steps, verdict, sound_of, broken_of}
 use Rattle.form.specs.step.laws.Steps.{step_outside}
 use Rattle.form.specs.step.laws.Standing.{ok_start, ok_steps, nothing, none_after_end}
 use Rattle.octets.specs.laws.Bytes.{bytes_take}
@@ -20,7 +20,6 @@ use Rattle.form.specs.laws.Tail.{after_end, refused_ends}
 use Rattle.form.specs.laws.Exact.{sound_broken, accepts, only_forms}
 use Rattle.form.specs.laws.Place.{SomeStop, stop, taken_all, five_ends, bytes_both, broken_at}
 use Rattle.form.specs.declared.step.Reader.{Reader}
-use Rattle.form.specs.step.Reader.{sound_of, broken_of}
 
 no_bytes : (s : List ℕ) → length s ≡ 0 → s ≡ []
 no_bytes [] e = refl

@@ -10,7 +10,7 @@ use Rattle.base.specs.numbers.Numbers.{refused_form}
 use Rattle.octets.specs.Bytes.{Bytes}
 use Rattle.octets.specs.laws.Bytes.{bytes_take}
 use Rattle.form.specs.Form.{IsForm}
-use Rattle.form.specs.step.Reader.{size_of, opens, room_left, follows, broken, start, number_for, refused, begun, inside, outside, step, steps, verdict}
+use Rattle.form.specs.step.Reader.{size_of, opens, room_left, follows, broken, start, number_for, refused, begun, inside, outside, step, steps, verdict, sound_of, broken_of}
 use Rattle.form.specs.step.laws.Steps.{step_outside, number_broken}
 use Rattle.form.specs.step.Standing.{Ok}
 use Rattle.form.specs.step.laws.Standing.{ok_start, ok_steps}
@@ -18,7 +18,6 @@ use Rattle.form.specs.laws.Run.{kind_follows}
 use Rattle.form.specs.laws.Cut.{Ended, steps_append, steps_broken, true_false, partway}
 use Rattle.form.specs.laws.Exact.{sound_broken, accepts, only_forms}
 use Rattle.form.specs.declared.step.Reader.{Reader}
-use Rattle.form.specs.step.Reader.{sound_of, broken_of}
 use Rattle.form.specs.step.Holds.{form_number, form_place}
 use Rattle.form.specs.Place.{StartsForm, Place}
 

@@ -1,8 +1,7 @@
 -- What the functions ask of the lent lists, and what they promise of them.
 use Rattle.std.specs.Prelude.{Ok, Err, List, ◌≡◌, ℕ, ◌≤◌, Float, length}
 use Rattle.form.specs.Limits.{most_sites, most_triangles, most_hull, most_coordinates, most_links}
-use Rattle.form.specs.step.Reader.{Reading, takes, verdict}
-use Rattle.form.specs.step.Reader.{Form}
+use Rattle.form.specs.step.Reader.{Reading, takes, verdict, Form}
 use Rattle.form.specs.declared.step.Sound.{Sound}
 
 pub record ListRoom (bs ss : List Float) (ts es hs : List ℕ) : Type 0 where

@@ -6,10 +6,8 @@ use mathlib.Core.List.{List, [], ◌∷◌, ◌++◌, append_assoc}
 use Rattle.std.proofs.lemmas.List.Edits.{sets}
 use Rattle.octets.specs.Bytes.{each}
 use Rattle.form.specs.Form.{Outline, Site, FormMesh, MeshFits, MayBegin, form_of, outline_bytes, site_bytes, triangle_bytes, hull_bytes, outline_floats, site_floats, triangle_sites, triangle_pairs, kind_of}
-use Rattle.form.specs.step.Reader.{start, reading, takes}
+use Rattle.form.specs.step.Reader.{start, reading, takes, Form, sound_of}
 use Rattle.form.specs.step.Holds.{Reads}
-use Rattle.form.specs.step.Reader.{Form}
-use Rattle.form.specs.step.Reader.{sound_of}
 use Rattle.form.specs.laws.Lists.{each_length}
 use Rattle.form.specs.laws.Mesh.{WholeRead, complete}
 use Rattle.mend.specs.writer.Written.{triangles_of, triangle_records, lists, written_form}

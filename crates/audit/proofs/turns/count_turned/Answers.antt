@@ -1,6 +1,6 @@
 -- `audit::turns::count_turned` meets its contract: the count of the triangles that were passed.
-use Rattle.std.proofs.Common.{◌-◌, ◌/◌, length, arith}
-use Rattle.audit.specs.turns.laws.Turns.{CountedTo, counted_start, counted_few, counted_step, counted_end}
+use Rattle.std.proofs.Common.{arith}
+use Rattle.audit.specs.turns.laws.Turns.{counted_start, counted_few, counted_step, counted_end}
 use Rattle.audit.proofs.turns.count_turned.Goals as goal
 
 pub loop-t-init : goal.loop-t-init

@@ -1,6 +1,6 @@
 -- `audit::turns::first_turned` meets its contract: no triangle that was passed is turned.
-use Rattle.std.proofs.Common.{subst, ◌≡◌, ◌-◌, ◌/◌, length, arith}
-use Rattle.ring_area.specs.lowest.laws.Loops.{NoneTo, passed_start, passed_step, passed_found, passed_end}
+use Rattle.std.proofs.Common.{subst, ◌≡◌, ◌/◌, length, arith}
+use Rattle.ring_area.specs.lowest.laws.Loops.{passed_start, passed_step, passed_found, passed_end}
 use Rattle.ring_area.specs.lowest.Lowest.{lowest}
 use Rattle.audit.specs.turns.Turned.{turned_at}
 use Rattle.audit.proofs.turns.first_turned.Goals as goal

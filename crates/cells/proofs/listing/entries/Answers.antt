@@ -1,14 +1,13 @@
 -- `cells::listing::entries` meets its contract: the invariant is that the entries so far are written; each turn writes one more.
 use mathlib.Core.Path.{sym, ap, subst}
 use mathlib.Core.List.{[], ◌∷◌}
-use Prim.Native.Nat.{◌+◌, ◌-◌}
-use native.Mathlib.Omega.{arith}
-use lib.ListN.{length, get_or, take, drop}
+use Prim.Native.Nat.{◌+◌}
+use lib.ListN.{length, get_or, drop}
 use lib.Seq.{take-length}
 use Rattle.printing.specs.parts.Labelled.{entries}
 use Rattle.cells.specs.listing.laws.Listing.{entries_none, entries_more, entries_whole}
 use Rattle.octets.specs.Wrote.{HasRoom}
-use Rattle.octets.specs.laws.Wrote.{lined_fits, Lined, lined_start, lined_step, lined_end, wrote_length, wrote_as}
+use Rattle.octets.specs.laws.Wrote.{lined_fits, lined_start, lined_step, lined_end, wrote_length, wrote_as}
 use Rattle.cells.proofs.listing.entries.Goals as goal
 
 pub loop-n-init : goal.loop-n-init

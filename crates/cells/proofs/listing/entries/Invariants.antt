@@ -1,5 +1,4 @@
 -- The invariant is that the entries so far are written; each turn writes one more.
-use Prim.Native.Nat.{◌-◌}
 use lib.ListN.{length, take}
 use Rattle.printing.specs.parts.Labelled.{entries}
 use Rattle.octets.specs.laws.Wrote.{Lined}

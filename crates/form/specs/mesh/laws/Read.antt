@@ -11,12 +11,10 @@ use Rattle.form.specs.Place.{NumberAt}
 use Rattle.form.specs.Promise.{ReadSound, Refused, exact}
 use Rattle.form.specs.boxes.FormBox.{box_by}
 use Rattle.form.specs.boxes.Fits.{box_fits}
-use Rattle.form.specs.step.Reader.{start, reading}
+use Rattle.form.specs.step.Reader.{start, reading, Form, sound_of}
 use Rattle.form.specs.step.Holds.{ListRoom, Few, Reads}
 use Rattle.form.specs.laws.Lists.{Put, sites_are, tri_is, he_is, hull_is}
 use Rattle.form.specs.mesh.Read.{BoxOf, mesh_answer, mesh_parts, MeshSized, HoldsMesh, MeshRead, RefusedAt}
-use Rattle.form.specs.step.Reader.{Form}
-use Rattle.form.specs.step.Reader.{sound_of}
 
 -- every number of a refusal is some number
 number_some : {old : Bool} {s : List ℕ} {k n : ℕ} → NumberAt old s k n → n ≢ 0

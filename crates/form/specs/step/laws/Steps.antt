@@ -5,9 +5,8 @@ use borrow.Author.Tests.{eqb-true, eqb-false, ltb-true, ltb-false, ne_eqb}
 use Rattle.base.specs.common.Pick.{pick}
 use Rattle.base.specs.numbers.Numbers.{refused_form, refused_unclipped}
 use Rattle.form.specs.Limits.{most_sites, most_triangles, most_hull}
-use Rattle.form.specs.step.Reader.{opens, room_left, follows, number_for, refused, inside, outside, step, within, broken, finished, verdict}
+use Rattle.form.specs.step.Reader.{opens, room_left, follows, number_for, refused, inside, outside, step, within, broken, finished, verdict, sound_of, broken_of}
 use Rattle.form.specs.declared.step.Reader.{Reader}
-use Rattle.form.specs.step.Reader.{sound_of, broken_of}
 
 pub by_test : (t : Bool) (a b : Bool) → pick t (λ _. a) (λ _. b) ≡ true → ((t ≡ true) × (a ≡ true)) ⊎ ((t ≡ false) × (b ≡ true))
 by_test true a b e = inl (refl, e)

@@ -1,5 +1,5 @@
 -- Each turn writes one more whole number.
-use Rattle.std.proofs.Common.{◌≡◌, ℕ, ◌-◌, ◌<◌, ◌≤◌, length, get_or, pos, ◌∙◌, arith, length-set, w32, rules}
+use Rattle.std.proofs.Common.{◌∙◌, arith, length-set, w32, rules}
 use borrow.Author.Rules.{sfits_of}
 use mir.ValLaws.{to_z-of_z}
 use Rattle.nearest.specs.whole_sites.Whole.{wholes_of}

@@ -1,5 +1,5 @@
 -- The mesh is admitted, cells that are lent are sound, and the lists are made; or the number is the refusal's.
-use Rattle.std.proofs.Common.{refl, ap, rules}
+use Rattle.std.proofs.Common.{refl, ap}
 use Rattle.std.specs.Prelude.{not}
 use Rattle.base.specs.common.laws.Decide.{granted, refused}
 use Rattle.base.specs.refusal.laws.Number.{some_number, handed_on}
