@@ -76,29 +76,24 @@ fn answer(bytes: &[u8], out: &mut [u8]) -> usize
     let mut triangles = [0u32; LINKS];
     let mut halfedges = [0u32; LINKS];
     let mut hull = [0u32; HULL];
-    let read = form::mesh::read(
+    match form::mesh::read(
         false,
         bytes,
         &mut sites,
         &mut triangles,
         &mut halfedges,
         &mut hull,
-    );
-    if read.number != 0 {
-        return printing::parts::refusal(out, read.number);
+    ) {
+        Ok(mesh) => of_mesh(
+            out,
+            mesh.given,
+            &sites[..mesh.coordinates],
+            &triangles[..mesh.links],
+            &halfedges[..mesh.links],
+            &hull[..mesh.hull],
+        ),
+        Err(broken) => printing::parts::refusal(out, u32::from(broken.number)),
     }
-    let given = read.given;
-    let n = read.coordinates;
-    let k = read.links;
-    let h = read.hull;
-    of_mesh(
-        out,
-        given,
-        &sites[..n],
-        &triangles[..k],
-        &halfedges[..k],
-        &hull[..h],
-    )
 }
 
 fn main(rt: HostRuntime) -> io::Result<()> {

@@ -129,28 +129,23 @@ fn of_form(bytes: &[u8]) -> Result<(), Offence>
     let mut triangles = [0u32; LINKS];
     let mut halfedges = [0u32; LINKS];
     let mut hull = [0u32; HULL];
-    let read = form::mesh::read(
+    match form::mesh::read(
         false,
         bytes,
         &mut sites,
         &mut triangles,
         &mut halfedges,
         &mut hull,
-    );
-    if read.number != 0 {
-        return Err(Offence::Refused(read.number));
+    ) {
+        Ok(mesh) => of_mesh(
+            mesh.given,
+            &sites[..mesh.coordinates],
+            &triangles[..mesh.links],
+            &halfedges[..mesh.links],
+            &hull[..mesh.hull],
+        ),
+        Err(broken) => Err(Offence::Refused(u32::from(broken.number))),
     }
-    let given = read.given;
-    let n = read.coordinates;
-    let k = read.links;
-    let h = read.hull;
-    of_mesh(
-        given,
-        &sites[..n],
-        &triangles[..k],
-        &halfedges[..k],
-        &hull[..h],
-    )
 }
 
 // What is printed for a form's bytes.

@@ -1,12 +1,12 @@
 -- What was read of a form's bytes is its mesh, so what is printed for the lists is what is printed for the bytes, and the other way round.
-use Rattle.std.specs.Prelude.{◌≡◌, Bool, List, ◌≢◌, ℕ, ◌+◌, ◌*◌, ◌/◌, ◌≤◌, Float, length, take}
+use Rattle.std.specs.Prelude.{◌≡◌, Err, Bool, List, ℕ, ◌+◌, ◌*◌, ◌/◌, ◌≤◌, Float, length, take}
 use Rattle.std.proofs.Common.{sym, subst, arith}
 use Rattle.octets.specs.Bytes.{each}
 use Rattle.printing.specs.parts.Labelled.{refusal}
 use Rattle.form.specs.Form.{Outline, FormMesh, MayBegin, form_of, kind_of, site_floats}
 use Rattle.form.specs.Place.{Place, NumberAt}
-use Rattle.form.specs.mesh.Read.{MeshRead}
-use Rattle.form.specs.declared.mesh.MeshParts.{MeshParts}
+use Rattle.form.specs.mesh.Read.{ReadParts, MeshRead, RefusedAt}
+use Rattle.form.specs.declared.step.Broken.{Broken}
 use Rattle.mend.specs.boxes.Option.{IsOption, outline_of, gives}
 use Rattle.mend.specs.Printed as printed
 use Rattle.mend.specs.Printed.{PrintsMesh, MendPrints, MendNumber, sound, broken}
@@ -38,7 +38,7 @@ module _ (option : List ℕ) (i : IsOption option) (m : FormMesh) (b : MayBegin 
 
 -- ---- by what was read
 
-module _ {old : Bool} {s : List ℕ} {a : MeshParts} {ss : List Float} {ts es hs : List ℕ} (r : MeshRead old s a ss ts es hs) where
+module _ {old : Bool} {s : List ℕ} {a : ReadParts} {ss : List Float} {ts es hs : List ℕ} (r : MeshRead old s a ss ts es hs) where
   -- the sites of the mesh
   half : (z : a.number ≡ 0) → a.coordinates / 2 ≡ length (r.sound z).mesh.sites
   half z = omega (arith, (r.sound z).holds.count)
@@ -56,7 +56,9 @@ module _ {old : Bool} {s : List ℕ} {a : MeshParts} {ss : List Float} {ts es hs
         let b = subst (λ (x : Bool). MayBegin x p.mesh.clip) g p.admits in
         sound p.mesh p.fits b p.form (to_mesh option i p.mesh b form (rw (h.kind, half z, p.form, h.sites, h.triangles, h.halfedges, h.hull) at q))
 
-    pub prints_refusal : a.number ≢ 0 → text ≡ refusal a.number → MendPrints form (outline_of option) s text
-    prints_refusal z e =
-        let p = r.broken z in
-        rw e (broken (subst (λ (x : Bool). Place x s p.place) g p.first) (subst (λ (x : Bool). NumberAt x s p.place a.number) g p.number_at))
+-- ---- by its refusal
+
+pub prints_refusal : {old form : Bool} {s text : List ℕ} (option : List ℕ) → old ≡ gives (outline_of option) → (b : Broken) → RefusedAt old s (Err b) → text ≡ refusal b.number
+    → MendPrints form (outline_of option) s text
+prints_refusal {s = s} option g b p e =
+    rw e (broken (subst (λ (x : Bool). Place x s b.at) g p.0) (subst (λ (x : Bool). NumberAt x s b.at b.number) g p.1))

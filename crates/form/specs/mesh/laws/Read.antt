@@ -1,7 +1,8 @@
 -- What the reader leaves in its lists is the mesh of the form, or a refusal with its number.
-use Rattle.std.specs.Prelude.{Ok, Err, ◌≡◌, refl, Bool, false, List, ◌≢◌, ℕ, ◌≤◌, Float, length}
+use Rattle.std.specs.Prelude.{Ok, Err, ◌≡◌, refl, Bool, false, List, ◌≢◌, ℕ, ◌≤◌, Float, length, replicate}
 use Rattle.std.proofs.Common.{sym, ◌∙◌, subst, ⊎_elim, arith}
 use Rattle.std.proofs.lemmas.List.Edits.{sets}
+use Rattle.base.specs.common.Binary64 as B
 use Rattle.base.specs.common.laws.Stores.{sets_all}
 use Rattle.plane.specs.given.Finite.{Fits}
 use Rattle.octets.specs.Bytes.{Bytes}
@@ -13,7 +14,7 @@ use Rattle.form.specs.boxes.Fits.{box_fits}
 use Rattle.form.specs.step.Reader.{start, reading, Form, sound_of}
 use Rattle.form.specs.step.Holds.{ListRoom, Few, Reads}
 use Rattle.form.specs.laws.Lists.{Put, sites_are, tri_is, he_is, hull_is}
-use Rattle.form.specs.mesh.Read.{BoxOf, mesh_parts, MeshSized, HoldsMesh, MeshRead}
+use Rattle.form.specs.mesh.Read.{BoxOf, mesh_answer, mesh_parts, MeshSized, HoldsMesh, MeshRead, RefusedAt}
 
 -- every number of a refusal is some number
 number_some : {old : Bool} {s : List ℕ} {k n : ℕ} → NumberAt old s k n → n ≢ 0
@@ -33,7 +34,7 @@ sized (Err b) bs f = record { few_sites = omega arith; few_triangles = omega ari
 
 fits : (a : Form) (bs : List Float) → Fits (mesh_parts a bs).given
 fits (Ok s) bs = box_fits s.clip bs
-fits (Err b) bs = box_fits 0 bs
+fits (Err b) bs = box_fits 0 (replicate 4 B.zero)
 
 -- the lists after a mesh was read into them
 pub holds_mesh :
@@ -82,3 +83,6 @@ module _ {old : Bool} {s : List ℕ} {bs ss : List Float} {ts es hs : List ℕ} 
 
   pub mesh_read : MeshRead old s (mesh_parts a bs') ss' ts' es' hs'
   mesh_read = ⊎_elim of_sound of_broken (exact old s bs ss ts es hs a bs' ss' ts' es' hs' x h)
+
+  pub refused_at : RefusedAt old s (mesh_answer a bs')
+  refused_at = ⊎_elim (λ p. rw p.answer tt) (λ p. rw p.answer (p.first, p.number_at)) (exact old s bs ss ts es hs a bs' ss' ts' es' hs' x h)

@@ -1,0 +1,25 @@
+-- `certify::answer` prints what is promised: the form was read, and its lists are the mesh of its bytes.
+use Rattle.std.proofs.Common.{[], refl, ap, ◌∙◌, arith}
+use Rattle.printing.specs.parts.Labelled.{refusal}
+use Rattle.printing.specs.parts.laws.Labelled.{refusal_short}
+use Rattle.printing.specs.laws.TextRoom.{line_held}
+use Rattle.printing.specs.laws.ReadForm.{parts_sized, told, not_told}
+use Rattle.certify.specs.laws.Ordered.{box_ordered}
+use Rattle.certify.proofs.answer.Goals as goal
+
+pub refusal-requires : goal.refusal-requires
+refusal-requires c = omega (arith, refusal_short c.from.result, c.requires)
+
+pub of_mesh-requires : goal.of_mesh-requires
+of_mesh-requires c =
+    let r = c.in-Ok.ensures.0 in
+    let p = r.sound refl in
+    ((parts_sized _ [] [] r.sized).few_sites, r.box, box_ordered p.mesh.clip _ (p.holds.given p.admits), c.requires)
+
+pub returns-in-Ok : goal.returns-in-Ok
+returns-in-Ok c = let h = c.of_mesh.ensures in (told c.in-Ok.ensures.0 refl h.0, h.1)
+
+pub returns-in-Err : goal.returns-in-Err
+returns-in-Err c =
+    let h = line_held _ (omega (arith, c.requires)) c.refusal.ensures in
+    (not_told c.in-Err.broken c.in-Err.ensures.1 (h.first ∙ ap refusal c.from.ensures), h.within)
