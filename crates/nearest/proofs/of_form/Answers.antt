@@ -1,5 +1,5 @@
 -- `nearest::of_form`: the form was read, and its lists are the mesh of its bytes.
-use Rattle.std.proofs.Common.{refl, rules}
+use Rattle.std.proofs.Common.{refl}
 use Rattle.printing.specs.laws.ReadForm.{told, not_told}
 use Rattle.nearest.proofs.of_form.Goals as goal
 
