@@ -75,21 +75,21 @@ fn held_count(all: bool, part: &[u32], count: usize) -> usize
     part.len()
 }
 
-// Whether the corner is nearer to the site at place j of those.
+// Whether the corner is nearer to the site at place j of those. The site s is read once for all of them.
 fn beyond_at(
     far: f64,
     corner: Point,
     sites: &[f64],
     s: usize,
+    site: Point,
     part: &[u32],
     all: bool,
     j: usize,
 ) -> bool
-    requires { HeldNames sites.now s part.now all × (j < held_count all part.now (length sites.now / 2)) }
+    requires { HeldNames sites.now s part.now all × (j < held_count all part.now (length sites.now / 2)) × (site ≡ point_at sites.now s) }
     ensures { result ≡ beyond_at far corner sites.now s part.now all j }
 {
-    let other = point_at(sites, other_at(all, part, j));
-    is_beyond(far, corner, point_at(sites, s), other)
+    is_beyond(far, corner, site, point_at(sites, other_at(all, part, j)))
 }
 
 // The first of those that the corner is nearer to, or their number.
@@ -104,9 +104,10 @@ pub fn first_beyond(
     requires { HeldNames sites.now s part.now all }
     ensures { result ≡ lowest (beyond_at far corner sites.now s part.now all) (held_count all part.now (length sites.now / 2)) }
 {
+    let site = point_at(sites, s);
     let count = held_count(all, part, sites.len() / 2);
     (0..count)
-        .find(|&j| beyond_at(far, corner, sites, s, part, all, j))
+        .find(|&j| beyond_at(far, corner, sites, s, site, part, all, j))
         .unwrap_or(count)
 }
 

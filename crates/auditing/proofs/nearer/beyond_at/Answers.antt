@@ -7,13 +7,10 @@ use Rattle.auditing.proofs.nearer.beyond_at.Goals as goal
 pub other_at-requires : goal.other_at-requires
 other_at-requires c = other_there c.args.all c.args.part.now _ c.args.j refl c.requires.1
 
-pub point_at-other-requires : goal.point_at-other-requires
-point_at-other-requires c = named_twice _ _ (rw c.other_at.ensures (other_site c.args.all c.args.part.now _ c.args.j refl c.requires.1 c.requires.0.named))
-
 pub point_at-requires : goal.point_at-requires
-point_at-requires c = named_twice _ _ c.requires.0.own
+point_at-requires c = named_twice _ _ (rw c.other_at.ensures (other_site c.args.all c.args.part.now _ c.args.j refl c.requires.1 c.requires.0.named))
 
 pub returns : goal.returns
 returns c =
-    beyond_is c.args.far c.args.corner c.args.sites.now c.args.s c.args.part.now c.args.all c.args.j c.point_at.ensures c.other_at.ensures
-    c.point_at-other.ensures c.is_beyond.ensures
+    beyond_is c.args.far c.args.corner c.args.sites.now c.args.s c.args.part.now c.args.all c.args.j c.requires.2 c.other_at.ensures
+    c.point_at.ensures c.is_beyond.ensures

@@ -2,8 +2,12 @@
 use Rattle.std.proofs.Common.{◌≡◌, true, false, rules}
 use Rattle.std.proofs.lemmas.Iterator.{first_from_Range}
 use Rattle.ring_area.specs.lowest.laws.Found.{found}
+use Rattle.ring_area.specs.lowest.laws.Loops.{named_twice}
 use Rattle.auditing.specs.nearer.Nearer.{beyond_at}
 use Rattle.auditing.proofs.nearer.first_beyond.Goals as goal
+
+pub point_at-site-requires : goal.point_at-site-requires
+point_at-site-requires c = named_twice _ _ c.requires.own
 
 pub returns : goal.returns
 returns c =
