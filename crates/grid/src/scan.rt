@@ -90,17 +90,22 @@ fn circle_at(grid: &[i32], triangles: &[u32], halfedges: &[u32], e: usize) -> bo
     !far_inside(grid, triangles, e, wide(p))
 }
 
-// The lowest half-edge whose far site is strictly inside the circle, or their number.
+// The lowest half-edge whose far site is strictly inside the circle, or their number: over the triangles and their three sides, left at the first offender.
 fn check_circles(grid: &[i32], triangles: &[u32], halfedges: &[u32]) -> usize
     requires { Scannable grid.now triangles.now halfedges.now }
     ensures { First (CircleAt grid.now triangles.now halfedges.now) (length triangles.now) result }
 {
-    for e in 0..triangles.len() {
-        if !circle_at(grid, triangles, halfedges, e) {
-            return e;
+    let count = triangles.len() / 3;
+    let mut found = triangles.len();
+    'triangles: for t in 0..count {
+        for side in 0..3 {
+            if !circle_at(grid, triangles, halfedges, 3 * t + side) {
+                found = 3 * t + side;
+                break 'triangles;
+            }
         }
     }
-    triangles.len()
+    found
 }
 
 // All turns are judged before the first circle.
