@@ -5,7 +5,7 @@ ghost use Rattle.base.specs.common.Decide.{First};
 ghost use Rattle.base.specs.numbers.Numbers.{EMPTY};
 ghost use Rattle.grid.specs.check.Promise.{grid_mesh};
 ghost use Rattle.grid.specs.declared.nearest.NearestFault.TheVariants.{Grid, Hull};
-ghost use Rattle.grid.specs.nearest.Judged.{nearest_number, nearest_kind, nearest_place};
+ghost use Rattle.grid.specs.nearest.Judged.{of_grid, of_hull, nearest_number, nearest_kind, nearest_place};
 ghost use Rattle.grid.specs.nearest.Promise.{NearestChecks};
 ghost use Rattle.grid.specs.nearest.laws.Outcome.{NearestSettled, UnusedIn};
 
@@ -68,6 +68,20 @@ pub fn place_of(answer: Result<(), NearestFault>) -> u32
     }
 }
 
+// What the check on the grid answers, handed on.
+fn of_grid(checked: Result<(), GridFault>) -> Result<(), NearestFault>
+    ensures { result ≡ of_grid checked }
+{
+    Ok(checked?)
+}
+
+// What the hull's short form answers, handed on.
+fn of_hull(judged: Result<(), HullFault>) -> Result<(), NearestFault>
+    ensures { result ≡ of_hull judged }
+{
+    Ok(judged?)
+}
+
 // The hull is judged where the check on the grid says yes.
 pub fn check_nearest(
     grid: &[i32],
@@ -78,9 +92,8 @@ pub fn check_nearest(
 ) -> Result<(), NearestFault>
     ensures { NearestSettled (grid_mesh grid.now triangles.now halfedges.now hull.now) work.old work.new result }
 {
-    check_grid(grid, triangles, halfedges, hull, work)?;
-    crate::border::judge(grid, hull)?;
-    Ok(())
+    of_grid(check_grid(grid, triangles, halfedges, hull, work))?;
+    of_hull(crate::border::judge(grid, hull))
 }
 
 // The lowest of the first `count` entries that is `EMPTY`, or their number.

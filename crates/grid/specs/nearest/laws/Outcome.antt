@@ -21,6 +21,7 @@ use Rattle.grid.specs.check.Yes.{yes_holds}
 use Rattle.grid.specs.check.laws.Outcome.{unlike, GridSettled}
 use Rattle.grid.specs.border.ShortForm.{HullVerdict, short_rules}
 use Rattle.grid.specs.border.laws.Hulls.{HullSites}
+use Rattle.grid.specs.declared.nearest.NearestFault.{NearestFault}
 use Rattle.grid.specs.declared.nearest.NearestFault.TheVariants.{Grid}
 use Rattle.grid.specs.nearest.Judged.{NearestAnswer, of_grid, of_hull, nearest_number}
 use Rattle.grid.specs.nearest.Promise.{nearest_rules, use_rules}
@@ -86,6 +87,15 @@ module _ (m : GridMesh) (old new : List ℕ) where
     accepted = λ z. zero_accepted (Err f) s z;
     work = s.work;
   }
+
+  -- ---- what of_grid makes of it
+  pub handed : (a : GridAnswer) (f : NearestFault) → GridSettled m old new a → Err f ≡ of_grid a → NearestSettled m old new (Err f)
+  handed (Ok _) f s q = absurd (unlike q)
+  handed (Err g) f s q = rw q (by_grid g s)
+
+  pub said_yes : (a : GridAnswer) → GridSettled m old new a → Ok tt ≡ of_grid a → GridSettled m old new (Ok tt)
+  said_yes (Ok _) s q = s
+  said_yes (Err g) s q = absurd (unlike (sym q))
 
   -- ---- it says yes
   module _ (s : GridSettled m old new (Ok tt)) where
