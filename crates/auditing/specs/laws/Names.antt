@@ -25,8 +25,12 @@ module _ (b : BoundingBox) (v : List Float) (off ix : List ℕ) (s : ℕ) {cell 
   unfolding cell_outside
   outside_below t = subst (λ (i : ℕ). i < length cell) (sym e) (ltb-true (lowest (outside_at b v cell) (length cell)) (length cell) (ap (cell_outside b v) z ∙ t))
 
-  pub outside_named : get_or cell k 0 ≡ entry_outside b v off ix s
-  outside_named = rw (e, z) refl
+  pub entry_named : get_or cell k 0 ≡ entry_outside b v off ix s
+  entry_named = rw (e, z) refl
+
+  pub outside_named : {a : ℕ} → a ≡ s → ◌≡◌ {A = AuditVerdict} (Err (Outside a (get_or cell k 0))) (outside_verdict b v off ix s)
+  unfolding outside_verdict
+  outside_named f = rw (f, e, z) refl
 
 -- ---- the third
 module _ (far : Float) (sites : List Float) (starts others : List ℕ) (v : List Float) (off ix : List ℕ) (s : ℕ) {all : Bool} {part cell : List ℕ} (x : all ≡ no_lists starts others)

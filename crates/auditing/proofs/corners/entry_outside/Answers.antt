@@ -1,7 +1,7 @@
 -- `auditing::corners::entry_outside` meets its contract: the first such corner is there.
 use Rattle.std.proofs.Common.{arith}
 use Rattle.areas.specs.laws.Entries.{cell_named}
-use Rattle.auditing.specs.laws.Names.{outside_below, outside_named}
+use Rattle.auditing.specs.laws.Names.{outside_below, entry_named}
 use Rattle.auditing.proofs.corners.entry_outside.Goals as goal
 
 pub first_outside-k-requires : goal.first_outside-k-requires
@@ -20,4 +20,4 @@ bounds-entries-k c =
     outside_below c.args.bounds c.args.vertices.now c.args.offsets.now c.args.indexes.now c.args.s c.cell-entries.ensures c.first_outside-k.ensures c.requires.outside
 
 pub returns : goal.returns
-returns c = outside_named c.args.bounds c.args.vertices.now c.args.offsets.now c.args.indexes.now c.args.s c.cell-entries.ensures c.first_outside-k.ensures
+returns c = entry_named c.args.bounds c.args.vertices.now c.args.offsets.now c.args.indexes.now c.args.s c.cell-entries.ensures c.first_outside-k.ensures

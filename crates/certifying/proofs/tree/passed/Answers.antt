@@ -1,6 +1,6 @@
 -- `certifying::tree::passed` meets its contract.
 use Rattle.std.proofs.Common.{arith, le_of_lt, lt_of_lt_of_le}
-use Rattle.certifying.specs.tree.laws.Nodes.{end_past}
+use Rattle.certifying.specs.tree.laws.Nodes.{end_past_min}
 use Rattle.certifying.specs.tree.laws.Search.{passed_out, passed_stop, passed_block}
 use Rattle.certifying.proofs.tree.passed.Goals as goal
 
@@ -21,7 +21,7 @@ sift-count-requires c = (
   omega (arith, c.min-to.ensures),
   omega (arith, c.min-to.ensures),
   omega arith,
-  le_of_lt (end_past _ _ _ _ c.requires.1 (omega arith) c.min-to.ensures),
+  le_of_lt (end_past_min _ _ _ _ c.requires.1 (omega arith) c.min-to.ensures),
 )
 
 pub some_listed-requires : goal.some_listed-requires
@@ -38,9 +38,9 @@ pub returns-then-some_listed : goal.returns-then-some_listed
 returns-then-some_listed c = passed_stop c.requires.0 c.args.j c.requires.1 c.some_listed.ensures c.if-some_listed.true
 
 pub overflow_sub-result : goal.overflow_sub-result
-overflow_sub-result c = le_of_lt (end_past _ _ _ _ c.requires.1 (omega arith) c.min-to.ensures)
+overflow_sub-result c = le_of_lt (end_past_min _ _ _ _ c.requires.1 (omega arith) c.min-to.ensures)
 
 pub returns : goal.returns
 returns c =
-    passed_block c.requires.0 c.args.j c.requires.1 (end_past _ _ _ _ c.requires.1 (omega arith) c.min-to.ensures) (omega (arith, c.min-to.ensures))
+    passed_block c.requires.0 c.args.j c.requires.1 (end_past_min _ _ _ _ c.requires.1 (omega arith) c.min-to.ensures) (omega (arith, c.min-to.ensures))
     c.sift-count.ensures.0 c.some_listed.ensures c.if-some_listed.false

@@ -1,5 +1,5 @@
 -- The answer from the verdict, and beside a refusal.
-use Rattle.std.specs.Prelude.{◌≡◌, refl, List, ℕ, ◌≤◌, ◌<◌, Float, Ok, Err, length, replicate}
+use Rattle.std.specs.Prelude.{◌≡◌, refl, List, ◌≢◌, ℕ, ◌≤◌, ◌<◌, Float, Ok, Err, length, replicate}
 use Rattle.std.proofs.Math.Path.{sym, subst}
 use Rattle.std.proofs.Common.{ap, ◌∙◌}
 use borrow.Author.Tests.{ne_eqb, lt-ltb, le-ltb}
@@ -42,16 +42,21 @@ module _ (g : Given) (sites v : List Float) (off ix : List ℕ) (bits : ℕ) (ol
     work_is = rw k.none (w ∙ ap (λ (n : ℕ). replicate n EMPTY) j.judged.1);
   }
 
-  pub refused_certify : (e : Refusal) {mid new : List ℕ} {r kind site vertex other : ℕ} → CertifyJudged g sites v off ix bits old mid (Err e)
-      → RefusedAnswer (number_of e) mid new r kind site vertex other → CertifyAnswer g sites v off ix bits old new r kind site vertex other
+  pub refused_certify : {n : ℕ} → CertifyNumber g.sound sites v off ix bits (length old) n → n ≢ 0 → {new : List ℕ} {r kind site vertex other : ℕ}
+      → RefusedAnswer n old new r kind site vertex other → CertifyAnswer g sites v off ix bits old new r kind site vertex other
   unfolding unless_refused at_exit
-  refused_certify e j k =
-      let z = ne_eqb (number_of e) 0 (some_number e) in
+  refused_certify {n} a z t =
+      let e = ne_eqb n 0 z in
       record {
-        number = rw k.number j.number;
-        kind_is = rw (k.number, z) k.none.0;
-        site_is = rw (k.number, z) k.none.1;
-        vertex_is = rw (k.number, z) k.none.2;
-        other_is = rw (k.number, z) k.none.3;
-        work_is = rw (k.number, z, ← j.kept) k.work;
+        number = rw t.number a;
+        kind_is = rw (t.number, e) t.none.0;
+        site_is = rw (t.number, e) t.none.1;
+        vertex_is = rw (t.number, e) t.none.2;
+        other_is = rw (t.number, e) t.none.3;
+        work_is = rw (t.number, e) t.work;
       }
+
+  -- the same of what was judged
+  pub refused_judged : (e : Refusal) {mid new : List ℕ} {r kind site vertex other : ℕ} → CertifyJudged g sites v off ix bits old mid (Err e)
+      → RefusedAnswer (number_of e) mid new r kind site vertex other → CertifyAnswer g sites v off ix bits old new r kind site vertex other
+  refused_judged e j k = refused_certify j.number (some_number e) (rw (← j.kept) k)

@@ -47,18 +47,29 @@ unfolding certify_far reach_of
 far_is b bits e f g h i j k m = rw (m, k, i, j, e, f, g, h) refl
 
 -- ---- a stage: the lowest number that the test takes is named, or what comes after
-module _ (p : ℕ → Bool) (n : ℕ) (named : ℕ → CertifyFault) (after : CertifyVerdict) {s : ℕ} (e : s ≡ lowest p n) where
+module _ (p : ℕ → Bool) (n : ℕ) (named : ℕ → CertifyVerdict) (after : CertifyVerdict) {s : ℕ} (e : s ≡ lowest p n) where
   abbrev verdict : CertifyVerdict
-  verdict = pick (any_below p n) (λ _. Err (named (lowest p n))) (λ _. after)
+  verdict = pick (any_below p n) (λ _. named (lowest p n)) (λ _. after)
 
-  pub stage_named : {r : CertifyFault} → s < n → r ≡ named s → Err r ≡ verdict
-  stage_named h f = let t : any_below p n ≡ true = lt-ltb (lowest p n) n (subst (λ (k : ℕ). k < n) e h) in rw t (ap (λ (x : CertifyFault). Err x) (f ∙ ap named e))
+  pub stage_named : {r : CertifyVerdict} → s < n → r ≡ named s → r ≡ verdict
+  stage_named h f = let t : any_below p n ≡ true = lt-ltb (lowest p n) n (subst (λ (k : ℕ). k < n) e h) in rw t (f ∙ ap named e)
 
   pub stage_after : {r : CertifyVerdict} → n ≤ s → r ≡ after → r ≡ verdict
   stage_after h f = let t : any_below p n ≡ false = le-ltb (lowest p n) n (subst (λ (k : ℕ). n ≤ k) e h) in rw t f
 
   pub stage_taken : s < n → p s ≡ true
   stage_taken h = ap p e ∙ lowest_takes p n (subst (λ (k : ℕ). k < n) e h)
+
+-- the same where a fault is named
+module _ (p : ℕ → Bool) (n : ℕ) (named : ℕ → CertifyFault) (after : CertifyVerdict) {s : ℕ} (e : s ≡ lowest p n) where
+  abbrev faulted : CertifyVerdict
+  faulted = pick (any_below p n) (λ _. Err (named (lowest p n))) (λ _. after)
+
+  pub fault_named : {r : CertifyFault} → s < n → r ≡ named s → Err r ≡ faulted
+  fault_named h f = stage_named p n (λ k. Err (named k)) after e h (ap (λ (x : CertifyFault). Err x) f)
+
+  pub fault_after : {r : CertifyVerdict} → n ≤ s → r ≡ after → r ≡ faulted
+  fault_after h f = stage_after p n (λ k. Err (named k)) after e h f
 
 -- ---- the fifth
 pub twin_named : (sites : List Float) (s : ℕ) {a o : ℕ} → a ≡ s → o ≡ lowest (twin_at sites s) s → Twin a o ≡ certify_twin sites s
@@ -67,11 +78,11 @@ twin_named sites s e f = rw (e, f) refl
 module _ (sites : List Float) {s : ℕ} (e : s ≡ lowest (has_twin sites) (length sites / 2)) where
   pub twins_named : {r : CertifyFault} → s < length sites / 2 → r ≡ certify_twin sites s → Err r ≡ twin_stage sites
   unfolding twin_stage
-  twins_named h f = stage_named (has_twin sites) (length sites / 2) (certify_twin sites) (Ok tt) e h f
+  twins_named h f = fault_named (has_twin sites) (length sites / 2) (certify_twin sites) (Ok tt) e h f
 
   pub twins_none : length sites / 2 ≤ s → Ok tt ≡ twin_stage sites
   unfolding twin_stage
-  twins_none h = stage_after (has_twin sites) (length sites / 2) (certify_twin sites) (Ok tt) e h refl
+  twins_none h = fault_after (has_twin sites) (length sites / 2) (certify_twin sites) (Ok tt) e h refl
 
 -- ---- the fourth
 pub names_none : (sites : List Float) {none : List ℕ} (s : ℕ) → s < length sites / 2 → HeldNames sites s none true
@@ -80,14 +91,14 @@ names_none sites s h = record { own = h; named = inl refl }
 module _ (far : Float) (sites v : List Float) (off ix : List ℕ) {s : ℕ} (e : s ≡ lowest (site_nearer far sites [] [] v off ix) (length sites / 2)) where
   pub near_named : {r : CertifyFault} → s < length sites / 2 → r ≡ certify_nearer far sites v off ix s → Err r ≡ near_stage far sites v off ix
   unfolding near_stage
-  near_named h f = stage_named (site_nearer far sites [] [] v off ix) (length sites / 2) (certify_nearer far sites v off ix) (twin_stage sites) e h f
+  near_named h f = fault_named (site_nearer far sites [] [] v off ix) (length sites / 2) (certify_nearer far sites v off ix) (twin_stage sites) e h f
 
   pub near_after : {r : CertifyVerdict} → length sites / 2 ≤ s → r ≡ twin_stage sites → r ≡ near_stage far sites v off ix
   unfolding near_stage
-  near_after h f = stage_after (site_nearer far sites [] [] v off ix) (length sites / 2) (certify_nearer far sites v off ix) (twin_stage sites) e h f
+  near_after h f = fault_after (site_nearer far sites [] [] v off ix) (length sites / 2) (certify_nearer far sites v off ix) (twin_stage sites) e h f
 
   pub near_taken : s < length sites / 2 → site_nearer far sites [] [] v off ix s ≡ true
-  near_taken h = stage_taken (site_nearer far sites [] [] v off ix) (length sites / 2) (certify_nearer far sites v off ix) (twin_stage sites) e h
+  near_taken h = stage_taken (site_nearer far sites [] [] v off ix) (length sites / 2) (λ k. Err (certify_nearer far sites v off ix k)) (twin_stage sites) e h
 
 -- what it names
 module _ (far : Float) (sites v : List Float) (off ix none : List ℕ) (no : none ≡ []) (s : ℕ) {cell : List ℕ} (z : cell ≡ cell_of off ix s) {k : ℕ}
@@ -137,13 +148,13 @@ module _ (b : BoundingBox) (bits : ℕ) (sites v : List Float) (off ix : List �
     pub side_named : {r : CertifyFault} → e < n → r ≡ certify_side sites off ix e → Err r ≡ side_stage b bits sites v off ix
     unfolding side_stage
     side_named l f =
-        stage_named (surplus_at b v ix (ends_of off ix) (side_count off)) (side_count off) (certify_side sites off ix) (border_stage b bits sites v off ix) side_there
+        fault_named (surplus_at b v ix (ends_of off ix) (side_count off)) (side_count off) (certify_side sites off ix) (border_stage b bits sites v off ix) side_there
         (subst (λ (m : ℕ). e < m) h.count l) f
 
     pub side_after : {r : CertifyVerdict} → n ≤ e → r ≡ border_stage b bits sites v off ix → r ≡ side_stage b bits sites v off ix
     unfolding side_stage
     side_after l f =
-        stage_after (surplus_at b v ix (ends_of off ix) (side_count off)) (side_count off) (certify_side sites off ix) (border_stage b bits sites v off ix) side_there
+        fault_after (surplus_at b v ix (ends_of off ix) (side_count off)) (side_count off) (certify_side sites off ix) (border_stage b bits sites v off ix) side_there
         (subst (λ (m : ℕ). m ≤ e) h.count l) f
 
 -- the ring of a side ends after it: the last one does
@@ -187,14 +198,14 @@ module _ (b : BoundingBox) (bits : ℕ) (sites v : List Float) (off ix : List �
 
   pub outside_named : {r : CertifyFault} → s < length sites / 2 → r ≡ certify_outside b v off ix s → Err r ≡ certify_on b bits sites v off ix
   unfolding certify_on
-  outside_named = stage_named (site_outside b v off ix) (length sites / 2) (certify_outside b v off ix) (side_stage b bits sites v off ix) same
+  outside_named = fault_named (site_outside b v off ix) (length sites / 2) (certify_outside b v off ix) (side_stage b bits sites v off ix) same
 
   pub outside_after : {r : CertifyVerdict} → length sites / 2 ≤ s → r ≡ side_stage b bits sites v off ix → r ≡ certify_on b bits sites v off ix
   unfolding certify_on
-  outside_after = stage_after (site_outside b v off ix) (length sites / 2) (certify_outside b v off ix) (side_stage b bits sites v off ix) same
+  outside_after = fault_after (site_outside b v off ix) (length sites / 2) (certify_outside b v off ix) (side_stage b bits sites v off ix) same
 
   pub outside_taken : s < length sites / 2 → site_outside b v off ix s ≡ true
-  outside_taken = stage_taken (site_outside b v off ix) (length sites / 2) (certify_outside b v off ix) (side_stage b bits sites v off ix) same
+  outside_taken = stage_taken (site_outside b v off ix) (length sites / 2) (λ k. Err (certify_outside b v off ix k)) (side_stage b bits sites v off ix) same
 
 pub outside_is : (b : BoundingBox) (v : List Float) (off ix : List ℕ) (s : ℕ) {a e : ℕ} → a ≡ s → e ≡ entry_outside b v off ix s → Outside a e ≡ certify_outside b v off ix s
 unfolding certify_outside

@@ -1,7 +1,8 @@
 -- Nodes: the sites of least and greatest coordinates of a block, found one site at a time, and written after what is there.
-use Rattle.std.specs.Prelude.{◌≡◌, Bool, true, false, List, ℕ, ◌+◌, ◌-◌, ◌*◌, ◌/◌, ◌≤◌, ◌<◌, Float, length, get_or, set, take, drop, min}
+use Rattle.std.specs.Prelude.{◌≡◌, Bool, true, false, List, ◌⊎◌, ℕ, ◌+◌, ◌-◌, ◌*◌, ◌/◌, ◌≤◌, ◌<◌, Float, length, get_or, set, take, drop, min}
 use Rattle.std.proofs.Math.Path.{refl}
-use Rattle.std.proofs.Common.{sym, ap, ◌∙◌, subst, ⊎_elim, le_trans, le_of_eq, le_of_lt, lt_of_lt_of_le, le-div_iff_mul-le, mul-le-mul_right, arith, length-set, get_or-set_same, get_or-set_other}
+use Rattle.std.proofs.Common.{sym, ap, ◌∙◌, subst, inl, inr, ⊎_elim, le_trans, le_of_eq, le_of_lt, lt_of_lt_of_le, le-div_iff_mul-le, mul-le-mul_right, arith}
+use Rattle.std.proofs.Common.{length-set, get_or-set_same, get_or-set_other}
 use Rattle.std.specs.Int.{div_ceil}
 use Rattle.std.proofs.lemmas.List.{length-take, get_or-take, get_or-drop}
 use Rattle.std.proofs.lemmas.Grind.{div_ceil_times}
@@ -174,6 +175,10 @@ named_as e f g h n = rw (e, f, g, h) n
 boxes_as : {sites : List Float} {l t r b o l' t' r' b' o' : ℕ} → l' ≡ l → t' ≡ t → r' ≡ r → b' ≡ b → o' ≡ o → Boxes sites l t r b o → Boxes sites l' t' r' b' o'
 boxes_as e f g h i n = rw (e, f, g, h, i) n
 
+-- the lesser of two numbers is one of them
+pub min_either : (a b : ℕ) {to : ℕ} → to ≡ min a b → (to ≡ a) ⊎ (to ≡ b)
+min_either a b {to} e = ⊎_elim (λ l. inl (omega (arith, e))) (λ l. inr (omega (arith, e))) (lt_or_ge a b)
+
 module _ {sites : List Float} {room : List ℕ} {w base : ℕ} (s : FillSafe sites room w base) (b : ℕ) (B : b * w < length sites / 2) where
   few_blocks : b ≤ length sites / 2 / w
   few_blocks = (le-div_iff_mul-le s.some).1 (le_of_lt B)
@@ -184,7 +189,7 @@ module _ {sites : List Float} {room : List ℕ} {w base : ℕ} (s : FillSafe sit
       go : (q : ℕ) → b ≤ q → base + 4 * (q + 1) ≤ length room → base + 4 * b + 3 < length room
       go q h k = omega arith
 
-  pub node_filled : {to l t r u : ℕ} {after : List ℕ} → BoxesFrom sites room (b * w) to l t r u → to ≡ min (b * w + w) (length sites / 2)
+  pub node_filled : {to l t r u : ℕ} {after : List ℕ} → BoxesFrom sites room (b * w) to l t r u → (to ≡ b * w + w) ⊎ (to ≡ length sites / 2)
       → after ≡ set (set (set (set room (base + 4 * b) l) (base + 4 * b + 1) t) (base + 4 * b + 2) r) (base + 4 * b + 3) u → NodeFilled sites w base b room after
   node_filled {to} {l} {t} {r} {u} {after} f end e = subst (NodeFilled sites w base b room) (sym e) (record {
     kept = record { same = wrote_length room at l t r u node_fits; each = before_word room at l t r u node_fits };
@@ -216,7 +221,11 @@ module _ {sites : List Float} {room : List ℕ} {w base : ℕ} (s : FillSafe sit
           go n h k = omega arith
 
       within : (j : ℕ) → j < b * w + w → j < length sites / 2 → j < to
-      within j y z = omega (arith, end)
+      within j y z = ⊎_elim (λ q. lt_of_lt_of_le y (le_of_eq (sym q))) (λ q. lt_of_lt_of_le z (le_of_eq (sym q))) end
+
+  pub node_filled_min : {to l t r u : ℕ} {after : List ℕ} → BoxesFrom sites room (b * w) to l t r u → to ≡ min (b * w + w) (length sites / 2)
+      → after ≡ set (set (set (set room (base + 4 * b) l) (base + 4 * b + 1) t) (base + 4 * b + 2) r) (base + 4 * b + 3) u → NodeFilled sites w base b room after
+  node_filled_min f end e = node_filled f (min_either (b * w + w) (length sites / 2) end) e
 
 -- what was written later leaves a node as it is
 module _ {sites : List Float} {p : ℕ} {before after : List ℕ} (s : SameBefore p before after) (N : length sites / 2 ≤ p) where
@@ -386,8 +395,11 @@ pub slice_item : (room : List ℕ) (a b i : ℕ) → i < length (take (b - a) (d
 slice_item room a b i h =
     get_or-take (b - a) (drop a room) i 0 (omega (arith, length-take (b - a) (drop a room))) ∙ get_or-drop a room i 0
 
-pub end_past : (x y n to : ℕ) → x < n → 0 < y → to ≡ min (x + y) n → x < to
-end_past x y n to h k e = omega arith
+pub end_past : (x y n to : ℕ) → x < n → 0 < y → (to ≡ x + y) ⊎ (to ≡ n) → x < to
+end_past x y n to h k = ⊎_elim (λ e. omega arith) (λ e. omega arith)
+
+pub end_past_min : (x y n to : ℕ) → x < n → 0 < y → to ≡ min (x + y) n → x < to
+end_past_min x y n to h k e = end_past x y n to h k (min_either (x + y) n e)
 
 -- the blocks of w places: block b of q starts below n, and q of them hold n
 pub block_below : {n w q b : ℕ} → 0 < w → q ≡ div_ceil n w → b < q → b * w < n
