@@ -71,9 +71,6 @@ module _ (p : ℕ → Bool) (n : ℕ) (named : ℕ → CertifyFault) (after : Ce
   pub fault_after : {r : CertifyVerdict} → n ≤ s → r ≡ after → r ≡ faulted
   fault_after h f = stage_after p n (λ k. Err (named k)) after e h f
 
-  pub fault_taken : s < n → p s ≡ true
-  fault_taken h = stage_taken p n (λ k. Err (named k)) after e h
-
 -- ---- the fifth
 pub twin_named : (sites : List Float) (s : ℕ) {a o : ℕ} → a ≡ s → o ≡ lowest (twin_at sites s) s → Twin a o ≡ certify_twin sites s
 twin_named sites s e f = rw (e, f) refl
@@ -101,7 +98,7 @@ module _ (far : Float) (sites v : List Float) (off ix : List ℕ) {s : ℕ} (e :
   near_after h f = fault_after (site_nearer far sites [] [] v off ix) (length sites / 2) (certify_nearer far sites v off ix) (twin_stage sites) e h f
 
   pub near_taken : s < length sites / 2 → site_nearer far sites [] [] v off ix s ≡ true
-  near_taken h = fault_taken (site_nearer far sites [] [] v off ix) (length sites / 2) (certify_nearer far sites v off ix) (twin_stage sites) e h
+  near_taken h = stage_taken (site_nearer far sites [] [] v off ix) (length sites / 2) (λ k. Err (certify_nearer far sites v off ix k)) (twin_stage sites) e h
 
 -- what it names
 module _ (far : Float) (sites v : List Float) (off ix none : List ℕ) (no : none ≡ []) (s : ℕ) {cell : List ℕ} (z : cell ≡ cell_of off ix s) {k : ℕ}
@@ -208,7 +205,7 @@ module _ (b : BoundingBox) (bits : ℕ) (sites v : List Float) (off ix : List �
   outside_after = fault_after (site_outside b v off ix) (length sites / 2) (certify_outside b v off ix) (side_stage b bits sites v off ix) same
 
   pub outside_taken : s < length sites / 2 → site_outside b v off ix s ≡ true
-  outside_taken = fault_taken (site_outside b v off ix) (length sites / 2) (certify_outside b v off ix) (side_stage b bits sites v off ix) same
+  outside_taken = stage_taken (site_outside b v off ix) (length sites / 2) (λ k. Err (certify_outside b v off ix k)) (side_stage b bits sites v off ix) same
 
 pub outside_is : (b : BoundingBox) (v : List Float) (off ix : List ℕ) (s : ℕ) {a e : ℕ} → a ≡ s → e ≡ entry_outside b v off ix s → Outside a e ≡ certify_outside b v off ix s
 unfolding certify_outside
