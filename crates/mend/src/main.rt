@@ -230,7 +230,7 @@ fn answer(bytes: &[u8], form: bool, option: &[u8], out: &mut [u8]) -> usize
             &halfedges[..mesh.links],
             &hull[..mesh.hull],
         ),
-        Err(broken) => printing::parts::refusal(out, u32::from(broken.number)),
+        Err(broken) => printing::parts::refusal(out, form::step::number_of(Err(broken))),
     }
 }
 

@@ -144,7 +144,7 @@ fn of_form(bytes: &[u8]) -> Result<(), Offence>
             &halfedges[..mesh.links],
             &hull[..mesh.hull],
         ),
-        Err(broken) => Err(Offence::Refused(u32::from(broken.number))),
+        Err(broken) => Err(Offence::Refused(form::step::number_of(Err(broken)))),
     }
 }
 

@@ -72,7 +72,7 @@ fn of_form(bytes: &[u8], q: Question) -> Reason
             &hull[..mesh.hull],
             q,
         ),
-        Err(broken) => Reason::Number(u32::from(broken.number)),
+        Err(broken) => Reason::Number(form::step::number_of(Err(broken))),
     }
 }
 

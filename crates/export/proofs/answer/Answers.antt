@@ -7,7 +7,7 @@ use Rattle.printing.specs.laws.ReadForm.{told, not_told}
 use Rattle.export.proofs.answer.Goals as goal
 
 pub refusal-requires : goal.refusal-requires
-refusal-requires c = omega (arith, refusal_short c.from.result, c.requires)
+refusal-requires c = omega (arith, refusal_short c.number_of.result, c.requires)
 
 pub returns-in-Ok : goal.returns-in-Ok
 returns-in-Ok c = let h = c.of_mesh.ensures in (told c.in-Ok.ensures.0 refl h.0, h.1)
@@ -15,4 +15,4 @@ returns-in-Ok c = let h = c.of_mesh.ensures in (told c.in-Ok.ensures.0 refl h.0,
 pub returns-in-Err : goal.returns-in-Err
 returns-in-Err c =
     let h = line_held _ (omega (arith, c.requires)) c.refusal.ensures in
-    (not_told c.in-Err.broken c.in-Err.ensures.1 (h.first ∙ ap refusal c.from.ensures), h.within)
+    (not_told c.in-Err.broken c.in-Err.ensures.1 (h.first ∙ ap refusal c.number_of.ensures), h.within)

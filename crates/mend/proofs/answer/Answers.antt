@@ -8,7 +8,7 @@ use Rattle.mend.specs.laws.ReadForm.{read_headed, prints, prints_refusal}
 use Rattle.mend.proofs.answer.Goals as goal
 
 pub refusal-requires : goal.refusal-requires
-refusal-requires c = omega (arith, refusal_short c.from.result, c.requires.1)
+refusal-requires c = omega (arith, refusal_short c.number_of.result, c.requires.1)
 
 pub of_form-requires : goal.of_form-requires
 of_form-requires c =
@@ -28,7 +28,7 @@ returns-in-Ok c =
 pub returns-in-Err : goal.returns-in-Err
 returns-in-Err c =
     let q = c.refusal.ensures in
-    let short = refusal_short c.from.result in (
-      prints_refusal c.args.option.now c.is_given-old.ensures c.in-Err.broken c.in-Err.ensures.1 (wrote_all q (omega (arith, short, c.requires.1)) ∙ ap refusal c.from.ensures),
+    let short = refusal_short c.number_of.result in (
+      prints_refusal c.args.option.now c.is_given-old.ensures c.in-Err.broken c.in-Err.ensures.1 (wrote_all q (omega (arith, short, c.requires.1)) ∙ ap refusal c.number_of.ensures),
       omega (arith, q.place, short, c.requires.1),
     )

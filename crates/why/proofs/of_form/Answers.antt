@@ -8,4 +8,4 @@ pub returns-in-Ok : goal.returns-in-Ok
 returns-in-Ok c = told c.in-Ok.ensures.0 refl c.of_mesh.ensures
 
 pub returns-in-Err : goal.returns-in-Err
-returns-in-Err c = not_told c.in-Err.broken c.in-Err.ensures.1 (ap Number c.from.ensures)
+returns-in-Err c = not_told c.in-Err.broken c.in-Err.ensures.1 (ap Number c.number_of.ensures)
