@@ -17,7 +17,7 @@ pub fn check_cells(offsets: &[u32], room: usize) -> bool
     if offsets[0] != 0 {
         return false;
     }
-    if !offsets.is_sorted() {
+    if !offsets.is_sorted_by(|x, y| *x <= *y) {
         return false;
     }
     base::numbers::wide(offsets[offsets.len() - 1]) <= room
@@ -40,10 +40,20 @@ pub fn holds(b: &[u32], x: u32) -> bool
     b.contains(&x)
 }
 
+// The same for a list of a few entries, where the library's wide search costs more than it saves.
+fn few_hold(b: &[u32], x: u32) -> bool
+    ensures { result ≡ holds_of b.now x }
+{
+    b.iter().any(|y| *y == x)
+}
+
 // How many entries of a stand in b, repeats counted.
 pub fn shared_entries(a: &[u32], b: &[u32]) -> usize
     ensures { result ≡ shared_of a.now b.now }
 {
+    if b.len() <= 8 {
+        return a.iter().filter(|x| few_hold(b, **x)).count();
+    }
     a.iter().filter(|x| holds(b, **x)).count()
 }
 
