@@ -3,11 +3,24 @@ ghost use Rattle.std.specs.Prelude.{◌≡◌, ◌+◌, ◌%◌, ◌<◌, ◌≤
 ghost use Rattle.base.specs.numbers.Numbers.{EMPTY};
 ghost use Rattle.base.specs.common.Decide.{Says};
 ghost use Rattle.walks.specs.shared.Cells.{Cells, cell_of, holds_of, shared_of, share_edge_of};
+ghost use Rattle.walks.specs.shared.laws.Offsets.{RisingTo};
 ghost use Rattle.walks.specs.shared.Edge.{names_of, first_of, shared_edge_of};
 
 use base::numbers::EMPTY;
 
-// Whether the offsets cut a list of `room` entries into cells.
+// Whether no entry is less than the one before it. It does not stop at one that is, so that the machine compares several at a time.
+fn rising(b: &[u32]) -> bool
+    ensures { Says result (RisingTo b.now (length b.now)) }
+{
+    let mut fell = false;
+    for i in 1..b.len() {
+        fell = fell | (b[i] < b[i - 1]);
+    }
+    !fell
+}
+
+// Whether the offsets cut a list of `room` entries into cells. They are read in parts of 16, each with the first of the next, no further than a part that falls; the
+// last part reaches to the end, and back over some that were read.
 pub fn check_cells(offsets: &[u32], room: usize) -> bool
     ensures { Says result (Cells offsets.now room) }
 {
@@ -17,7 +30,13 @@ pub fn check_cells(offsets: &[u32], room: usize) -> bool
     if offsets[0] != 0 {
         return false;
     }
-    if !offsets.is_sorted_by(|x, y| *x <= *y) {
+    let last = offsets.len().saturating_sub(17);
+    for at in (0..last).step_by(16) {
+        if !rising(&offsets[at..at + 17]) {
+            return false;
+        }
+    }
+    if !rising(&offsets[last..]) {
         return false;
     }
     base::numbers::wide(offsets[offsets.len() - 1]) <= room
@@ -40,18 +59,18 @@ pub fn holds(b: &[u32], x: u32) -> bool
     b.contains(&x)
 }
 
-// The same for a list of a few entries, where the library's wide search costs more than it saves.
+// The same for a list of a few entries, where the library's wide search costs more than it saves; of its searches that stop `position` is the shortest loop.
 fn few_hold(b: &[u32], x: u32) -> bool
     ensures { result ≡ holds_of b.now x }
 {
-    b.iter().any(|y| *y == x)
+    b.iter().position(|y| *y == x).is_some()
 }
 
 // How many entries of a stand in b, repeats counted.
 pub fn shared_entries(a: &[u32], b: &[u32]) -> usize
     ensures { result ≡ shared_of a.now b.now }
 {
-    if b.len() <= 8 {
+    if b.len() <= 10 {
         return a.iter().filter(|x| few_hold(b, **x)).count();
     }
     a.iter().filter(|x| holds(b, **x)).count()

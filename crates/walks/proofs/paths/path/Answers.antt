@@ -1,6 +1,6 @@
 -- The path stops where the hop does, else it goes on.
 use Rattle.std.proofs.Common.{arith, subst, ◌≡◌, length}
-use Rattle.std.specs.Prelude.{false}
+use Rattle.std.specs.Prelude.{false, true, set}
 use Rattle.walks.specs.neighbours.Fills.{Fills}
 use Rattle.walks.specs.paths.Path.{whole_path}
 use Rattle.walks.specs.paths.laws.PathLoops.{writing_stop, writing_go, writing_full}
@@ -8,7 +8,10 @@ use Rattle.walks.proofs.paths.path.Goals as goal
 
 pub returns-then-next-at : goal.returns-then-next-at
 returns-then-next-at c =
-    writing_stop _ _ _ _ _ c.requires.0 c.requires.1 _ _ c.loop-n.invariant _ c.hop-next.ensures.0 (omega arith) c.if-next-at.true
+    subst
+    (λ n. Fills (whole_path c.args.sites.now c.args.triangles.now c.args.halfedges.now c.args.table.now c.args.p c.args.s) c.args.out.now (set c.loop-n.out c.loop-n.n c.loop-n.at) n true)
+    (omega arith)
+    (writing_stop _ _ _ _ _ c.requires.0 c.requires.1 _ _ c.loop-n.invariant _ c.hop-next.ensures.0 (omega arith) c.if-next-at.true)
 
 pub loop-n-preserved : goal.loop-n-preserved
 loop-n-preserved c =

@@ -5,8 +5,8 @@ use Rattle.walks.specs.shared.Cells.{holds_of}
 use Rattle.walks.specs.shared.laws.Entries.{counted_shared}
 use Rattle.walks.proofs.shared.shared_entries.Goals as goal
 
-pub returns-then-b-le8 : goal.returns-then-b-le8
-returns-then-b-le8 c =
+pub returns-then-b-le10 : goal.returns-then-b-le10
+returns-then-b-le10 c =
     let e : c.count.result ≡ count_by (λ x. holds_of c.args.b.now x) c.args.a.now = search rules in
     e ∙ counted_shared _ _
 
